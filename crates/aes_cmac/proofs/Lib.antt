@@ -1,0 +1,5 @@
+pub mod WordBytes
+pub mod KeyWords
+pub mod FastCipher
+pub mod CmacLaws
+pub mod Doubling

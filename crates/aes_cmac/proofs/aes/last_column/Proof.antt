@@ -1,0 +1,25 @@
+use borrow.Author.Needs.{needs}
+use mathlib.Core.Path.{_∙_}
+use mathlib.Core.List.{[], _∷_}
+use Rattle.aes_cmac.specs.ByTable.{lastColumnBy}
+use Rattle.aes_cmac.proofs.aes.last_column.Statement.{statement}
+use Rattle.aes_cmac.proofs.aes.last_column.Tie as tie
+
+returns : tie.Need-returns
+unfolding lastColumnBy
+returns c = c .word .ensures ∙ (λ i. c .before .before .before .before .substituted .ensures i ∷ c .before .before .before .substituted2 .ensures i ∷ c .before .before .substituted3 .ensures i ∷ c .before .substituted4 .ensures i ∷ [])
+
+pub last-column-spec : {M : Type 1} → statement M
+last-column-spec =
+    tie.close
+    (tie.spec
+    (λ c. search needs)
+    (λ c κs. search needs)
+    (λ c. search needs)
+    (λ c κs. search needs)
+    (λ c. search needs)
+    (λ c κs. search needs)
+    (λ c. search needs)
+    (λ c κs. search needs)
+    (λ c κs. search needs)
+    returns)

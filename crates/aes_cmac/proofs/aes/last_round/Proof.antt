@@ -1,0 +1,45 @@
+use borrow.Author.Needs.{needs}
+use mathlib.Core.Path.{ap, ap₂, _∙_}
+use Rattle.aes_cmac.specs.Block.{xorBlock}
+use Rattle.aes_cmac.specs.Words.{wordBytes, wordsBytes, joined}
+use Rattle.aes_cmac.specs.ByTable.{lastRoundBy}
+use Rattle.aes_cmac.proofs.WordBytes.{state-of, xor-words, xor-key-words}
+use Rattle.aes_cmac.proofs.aes.last_round.Statement.{statement}
+use Rattle.aes_cmac.proofs.aes.last_round.Tie as tie
+
+returns : tie.Need-returns
+unfolding lastRoundBy wordsBytes wordBytes
+returns c =
+    c .unwords .ensures
+    ∙ c .before .xor-words .ensures
+    ∙ ap₂ xorBlock (state-of _ _ _ _ (c .before .before .before .before .before .before .last-column .ensures) (c .before .before .before .before .before .last-column2 .ensures) (c .before .before .before .before .last-column3 .ensures) (c .before .before .before .last-column4 .ensures)) (ap joined (c .before .before .words .ensures))
+    ∙ xor-key-words _ _
+
+pub last-round-spec : {M : Type 1} → statement M
+last-round-spec =
+    tie.close
+    (tie.spec
+    (λ c. search needs)
+    (λ c. search needs)
+    (λ c. search needs)
+    (λ c. search needs)
+    (λ c κs. search needs)
+    (λ c. search needs)
+    (λ c. search needs)
+    (λ c. search needs)
+    (λ c. search needs)
+    (λ c κs. search needs)
+    (λ c. search needs)
+    (λ c. search needs)
+    (λ c. search needs)
+    (λ c. search needs)
+    (λ c κs. search needs)
+    (λ c. search needs)
+    (λ c. search needs)
+    (λ c. search needs)
+    (λ c. search needs)
+    (λ c κs. search needs)
+    (λ c κs. search needs)
+    (λ c κs. search needs)
+    (λ c κs. search needs)
+    returns)

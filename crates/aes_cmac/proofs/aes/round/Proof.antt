@@ -1,0 +1,43 @@
+use borrow.Author.Needs.{needs}
+use mathlib.Core.Path.{ap, ap₂, _∙_}
+use Rattle.aes_cmac.specs.Block.{xorBlock}
+use Rattle.aes_cmac.specs.Words.{wordBytes, wordsBytes, joined}
+use Rattle.aes_cmac.specs.ByTable.{roundBy}
+use Rattle.aes_cmac.proofs.WordBytes.{state-of, xor-words, xor-key-words}
+use Rattle.aes_cmac.proofs.aes.round.Statement.{statement}
+use Rattle.aes_cmac.proofs.aes.round.Tie as tie
+
+returns : tie.Need-returns
+unfolding roundBy wordsBytes wordBytes
+returns c =
+    c .xor-words .ensures
+    ∙ ap₂ xorBlock (state-of _ _ _ _ (c .before .before .before .before .before .column .ensures) (c .before .before .before .before .column2 .ensures) (c .before .before .before .column3 .ensures) (c .before .before .column4 .ensures)) (ap joined (c .before .words .ensures))
+    ∙ xor-key-words _ _
+
+pub round-spec : {M : Type 1} → statement M
+round-spec =
+    tie.close
+    (tie.spec
+    (λ c. search needs)
+    (λ c. search needs)
+    (λ c. search needs)
+    (λ c. search needs)
+    (λ c κs. search needs)
+    (λ c. search needs)
+    (λ c. search needs)
+    (λ c. search needs)
+    (λ c. search needs)
+    (λ c κs. search needs)
+    (λ c. search needs)
+    (λ c. search needs)
+    (λ c. search needs)
+    (λ c. search needs)
+    (λ c κs. search needs)
+    (λ c. search needs)
+    (λ c. search needs)
+    (λ c. search needs)
+    (λ c. search needs)
+    (λ c κs. search needs)
+    (λ c κs. search needs)
+    (λ c κs. search needs)
+    returns)

@@ -1,0 +1,21 @@
+use borrow.Author.Needs.{needs}
+use mathlib.Core.Path.{_∙_}
+use denote.Ref.{now}
+use Rattle.aes_cmac.proofs.CmacLaws.{cmac-from-schedule}
+use Rattle.aes_cmac.proofs.cmac.aes_cmac.Statement.{statement}
+use Rattle.aes_cmac.proofs.cmac.aes_cmac.Tie as tie
+
+returns : tie.Need-returns
+returns c =
+    c .aes-cmac-with .ensures
+    ∙ cmac-from-schedule (c .before .before .before .before .before .before .before .args .key) (now (c .before .before .before .before .before .before .before .args .message)) (c .before .before .before .before .before .round-table .ensures) (c .before .before .before .before .expand-key .ensures) (c .before .before .subkey-with .ensures)
+
+pub aes-cmac-spec : {M : Type 1} → statement M
+aes-cmac-spec =
+    tie.close
+    (tie.spec
+    (λ c κs. search needs)
+    (λ c κs. search needs)
+    (λ c κs. search needs)
+    (λ c κs. search needs)
+    returns)

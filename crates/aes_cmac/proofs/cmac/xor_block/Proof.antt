@@ -1,0 +1,42 @@
+use borrow.Author.Needs.{needs}
+use Prim.Native.Nat.{_-_}
+use mathlib.Core.Path.{refl}
+use lib.ListN.{getD}
+use Rattle.aes_cmac.specs.Block.{xorBlock}
+use lib.Bits.{bitXor}
+use Rattle.octets.proofs.Lists.{Filled, filled-none, tabulated-more, filled-all}
+use Rattle.aes_cmac.proofs.cmac.xor_block.Statement.{statement}
+use Rattle.aes_cmac.proofs.cmac.xor_block.Tie as tie
+
+abbrev Inv-loop : tie.InvT-loop
+Inv-loop a b r₀ i₀ r i = Filled 0 (xorBlock a b) r i
+
+abbrev μ-loop : tie.MeasureT-loop
+μ-loop a b r₀ i₀ r i = 16 - i
+
+loop-holds : tie.Need-loop-holds Inv-loop μ-loop
+unfolding xorBlock
+loop-holds c = filled-none 0 refl
+
+loop-again : tie.Need-loop-again Inv-loop μ-loop
+unfolding xorBlock
+loop-again c = tabulated-more 16 (λ j. bitXor (getD (c .before .before .args .t1) j 0) (getD (c .before .before .args .t2) j 0)) _ refl (c .loop-test .taken) (c .before .loop .inv)
+
+returns : tie.Need-returns Inv-loop μ-loop
+unfolding xorBlock
+returns c = filled-all 0 (c .loop-test .left) (c .before .loop .inv)
+
+pub xor-block-spec : {M : Type 1} → statement M
+xor-block-spec =
+    tie.close
+    (tie.spec
+    Inv-loop
+    μ-loop
+    loop-holds
+    (λ c. search needs)
+    (λ c. search needs)
+    (λ c. search needs)
+    (λ c. search needs)
+    (λ c. search needs)
+    loop-again
+    returns)

@@ -1,0 +1,12 @@
+use borrow.Author.Needs.{needs}
+use Rattle.aes_cmac.proofs.WordBytes.{bytes-pack}
+use Rattle.aes_cmac.proofs.words.word.Statement.{statement}
+use Rattle.aes_cmac.proofs.words.word.Tie as tie
+
+returns : tie.Need-returns
+returns c = bytes-pack (c .args .a) (c .args .b) (c .args .c) (c .args .d) (search needs) (search needs) (search needs) (search needs)
+
+pub word-spec : {M : Type 1} → statement M
+word-spec =
+    tie.close
+    (tie.spec (λ c. search needs) (λ c. search needs) (λ c. search needs) (λ c. search needs) (λ c. search needs) (λ c. search needs) returns)

@@ -1,0 +1,6 @@
+pub mod Block
+pub mod Cipher
+pub mod KeyExpansion
+pub mod Cmac
+pub mod Words
+pub mod ByTable

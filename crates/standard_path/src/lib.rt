@@ -1,0 +1,2 @@
+// The header of SCION's standard path, and its hop MAC.
+pub mod mac;
