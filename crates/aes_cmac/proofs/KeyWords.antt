@@ -8,8 +8,8 @@ use native.Mathlib.Omega.{arith}
 use borrow.Author.Tests.{eq-eqb, ne-eqb}
 use lib.ListN.{getD, length}
 use Rattle.aes_sbox.specs.Field.{mul}
-use Rattle.aes_cmac.specs.KeyExpansion.{wordAt, xorWord, temp, rcon, rconByte, wordsFrom, keyExpansion, byFours, roundKeys}
-use Rattle.aes_cmac.specs.Words.{joined, blockWords, nextWords}
+use Rattle.aes_cmac.specs.KeyExpansion.{wordAt, xorWord, temp, rcon, rconByte, wordsFrom, keyExpansion, byFours, roundKeys, joined}
+use Rattle.aes_cmac.specs.Words.{blockWords, nextWords}
 use Rattle.octets.proofs.Below.{same-below}
 use Rattle.octets.proofs.Lists.{tabulate-getD}
 

@@ -43,10 +43,14 @@ wordsFrom (suc n) i a b c d = a ∷ wordsFrom n (suc i) b c d (xorWord a (temp i
 unfoldable pub keyExpansion : List ℕ → List (List ℕ)
 keyExpansion key = wordsFrom 44 4 (wordAt key 0) (wordAt key 1) (wordAt key 2) (wordAt key 3)
 
--- four words a time make a round key
+-- the first four words, one after the other
+abbrev pub joined : List (List ℕ) → List ℕ
+joined w = getD w 0 [] ++ (getD w 1 [] ++ (getD w 2 [] ++ getD w 3 []))
+
+-- n round keys, each of four words
 abbrev pub byFours : ℕ → List (List ℕ) → List (List ℕ)
 byFours zero w = []
-byFours (suc n) w = (getD w 0 [] ++ (getD w 1 [] ++ (getD w 2 [] ++ getD w 3 []))) ∷ byFours n (drop 4 w)
+byFours (suc n) w = joined w ∷ byFours n (drop 4 w)
 
 -- the eleven round keys
 unfoldable pub roundKeys : List ℕ → List (List ℕ)

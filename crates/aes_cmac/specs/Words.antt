@@ -1,9 +1,9 @@
 -- Four bytes in a machine word, the first in its lowest place, for the contracts of inner functions.
 -- Assumes nothing.
 use Prim.Native.Nat.{ℕ, _/_, _%_}
-use mathlib.Core.List.{List, [], _∷_, _++_}
+use mathlib.Core.List.{List, [], _∷_}
 use lib.ListN.{getD}
-use Rattle.aes_cmac.specs.KeyExpansion.{wordAt, xorWord, rotWord, subWord}
+use Rattle.aes_cmac.specs.KeyExpansion.{wordAt, xorWord, rotWord, subWord, joined}
 
 -- the bytes of a machine word
 unfoldable pub wordBytes : ℕ → List ℕ
@@ -16,10 +16,6 @@ wordsBytes w = wordBytes (getD w 0 0) ∷ wordBytes (getD w 1 0) ∷ wordBytes (
 -- the bytes of a block, word by word
 unfoldable pub blockWords : List ℕ → List (List ℕ)
 blockWords b = wordAt b 0 ∷ wordAt b 1 ∷ wordAt b 2 ∷ wordAt b 3 ∷ []
-
--- four words, one after the other
-abbrev pub joined : List (List ℕ) → List ℕ
-joined w = getD w 0 [] ++ (getD w 1 [] ++ (getD w 2 [] ++ getD w 3 []))
 
 -- the state whose columns are four machine words
 abbrev pub stateBytes : List ℕ → List ℕ

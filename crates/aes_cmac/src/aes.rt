@@ -25,77 +25,77 @@ pub fn round_table() -> [u8; 1024]
     tables::ROUND_TABLE
 }
 
-fn entry(table: &[u8; 1024], x: u8) -> u32
-    ensures { λ r. ⌜ wordBytes r ≡ entryOf (now (table .entry)) x ⌝ }
+fn entry(table: &[u8; 1024], byte: u8) -> u32
+    ensures { λ r. ⌜ wordBytes r ≡ entryOf (now (table .entry)) byte ⌝ }
 {
-    let at = 4 * (x as usize);
+    let at = 4 * (byte as usize);
     word(table[at], table[at + 1], table[at + 2], table[at + 3])
 }
 
 // A column of a full round before its key, from the four old columns from its own on.
-fn column(table: &[u8; 1024], a: u32, b: u32, c: u32, d: u32) -> u32
-    ensures { λ r. ⌜ wordBytes r ≡ columnBy (now (table .entry)) (a % 256) (b / 256 % 256) (c / 65536 % 256) (d / 16777216 % 256) ⌝ }
+fn column(table: &[u8; 1024], word0: u32, word1: u32, word2: u32, word3: u32) -> u32
+    ensures { λ r. ⌜ wordBytes r ≡ columnBy (now (table .entry)) (word0 % 256) (word1 / 256 % 256) (word2 / 65536 % 256) (word3 / 16777216 % 256) ⌝ }
 {
-    entry(table, (a % 0x100) as u8)
-        ^ rotate(entry(table, (b / 0x100 % 0x100) as u8))
-        ^ rotate(rotate(entry(table, (c / 0x1_0000 % 0x100) as u8)))
-        ^ rotate(rotate(rotate(entry(table, (d / 0x100_0000 % 0x100) as u8))))
+    entry(table, (word0 % 0x100) as u8)
+        ^ rotate(entry(table, (word1 / 0x100 % 0x100) as u8))
+        ^ rotate(rotate(entry(table, (word2 / 0x1_0000 % 0x100) as u8)))
+        ^ rotate(rotate(rotate(entry(table, (word3 / 0x100_0000 % 0x100) as u8))))
 }
 
-fn round(table: &[u8; 1024], s: [u32; 4], k: [u8; 16]) -> [u32; 4]
-    ensures { λ r. ⌜ stateBytes r ≡ roundBy (now (table .entry)) (stateBytes s) k ⌝ }
+fn round(table: &[u8; 1024], state: [u32; 4], round_key: [u8; 16]) -> [u32; 4]
+    ensures { λ r. ⌜ stateBytes r ≡ roundBy (now (table .entry)) (stateBytes state) «round_key» ⌝ }
 {
     let columns = [
-        column(table, s[0], s[1], s[2], s[3]),
-        column(table, s[1], s[2], s[3], s[0]),
-        column(table, s[2], s[3], s[0], s[1]),
-        column(table, s[3], s[0], s[1], s[2]),
+        column(table, state[0], state[1], state[2], state[3]),
+        column(table, state[1], state[2], state[3], state[0]),
+        column(table, state[2], state[3], state[0], state[1]),
+        column(table, state[3], state[0], state[1], state[2]),
     ];
-    xor_words(columns, words(k))
+    xor_words(columns, words(round_key))
 }
 
-fn substituted(table: &[u8; 1024], x: u8) -> u8
-    ensures { λ r. ⌜ r ≡ substitutedBy (now (table .entry)) x ⌝ }
+fn substituted(table: &[u8; 1024], byte: u8) -> u8
+    ensures { λ r. ⌜ r ≡ substitutedBy (now (table .entry)) byte ⌝ }
 {
-    table[4 * (x as usize) + 1]
+    table[4 * (byte as usize) + 1]
 }
 
 // The same of the last round, which does not mix.
-fn last_column(table: &[u8; 1024], a: u32, b: u32, c: u32, d: u32) -> u32
-    ensures { λ r. ⌜ wordBytes r ≡ lastColumnBy (now (table .entry)) (a % 256) (b / 256 % 256) (c / 65536 % 256) (d / 16777216 % 256) ⌝ }
+fn last_column(table: &[u8; 1024], word0: u32, word1: u32, word2: u32, word3: u32) -> u32
+    ensures { λ r. ⌜ wordBytes r ≡ lastColumnBy (now (table .entry)) (word0 % 256) (word1 / 256 % 256) (word2 / 65536 % 256) (word3 / 16777216 % 256) ⌝ }
 {
     word(
-        substituted(table, (a % 0x100) as u8),
-        substituted(table, (b / 0x100 % 0x100) as u8),
-        substituted(table, (c / 0x1_0000 % 0x100) as u8),
-        substituted(table, (d / 0x100_0000 % 0x100) as u8),
+        substituted(table, (word0 % 0x100) as u8),
+        substituted(table, (word1 / 0x100 % 0x100) as u8),
+        substituted(table, (word2 / 0x1_0000 % 0x100) as u8),
+        substituted(table, (word3 / 0x100_0000 % 0x100) as u8),
     )
 }
 
-fn last_round(table: &[u8; 1024], s: [u32; 4], k: [u8; 16]) -> [u8; 16]
-    ensures { λ r. ⌜ r ≡ lastRoundBy (now (table .entry)) (stateBytes s) k ⌝ }
+fn last_round(table: &[u8; 1024], state: [u32; 4], round_key: [u8; 16]) -> [u8; 16]
+    ensures { λ r. ⌜ r ≡ lastRoundBy (now (table .entry)) (stateBytes state) «round_key» ⌝ }
 {
     let columns = [
-        last_column(table, s[0], s[1], s[2], s[3]),
-        last_column(table, s[1], s[2], s[3], s[0]),
-        last_column(table, s[2], s[3], s[0], s[1]),
-        last_column(table, s[3], s[0], s[1], s[2]),
+        last_column(table, state[0], state[1], state[2], state[3]),
+        last_column(table, state[1], state[2], state[3], state[0]),
+        last_column(table, state[2], state[3], state[0], state[1]),
+        last_column(table, state[3], state[0], state[1], state[2]),
     ];
-    unwords(xor_words(columns, words(k)))
+    unwords(xor_words(columns, words(round_key)))
 }
 
 // The cipher with a lent table. With `round_table()` it is AES.
 pub fn encrypt_with(table: &[u8; 1024], round_keys: [[u8; 16]; 11], block: [u8; 16]) -> [u8; 16]
     ensures { λ r. ⌜ r ≡ cipherBy (now (table .entry)) «round_keys» block ⌝ }
 {
-    let mut s = xor_words(words(block), words(round_keys[0]));
+    let mut state = xor_words(words(block), words(round_keys[0]));
     let mut i = 1;
     while i < 10 {
-        let next = round(table, s, round_keys[i]);
-        s = next;
+        let next = round(table, state, round_keys[i]);
+        state = next;
         i += 1;
     }
-    last_round(table, s, round_keys[10])
+    last_round(table, state, round_keys[10])
 }
 
 pub fn encrypt_block(round_keys: [[u8; 16]; 11], block: [u8; 16]) -> [u8; 16]
@@ -105,36 +105,36 @@ pub fn encrypt_block(round_keys: [[u8; 16]; 11], block: [u8; 16]) -> [u8; 16]
     encrypt_with(&table, round_keys, block)
 }
 
-fn sub_byte(sbox: &[u8; 256], x: u8) -> u8
+fn sub_byte(sbox: &[u8; 256], byte: u8) -> u8
     requires { ⌜ now sbox ≡ sBox ⌝ }
-    ensures { λ r. ⌜ r ≡ subByte x ⌝ }
+    ensures { λ r. ⌜ r ≡ subByte byte ⌝ }
 {
-    sbox[x as usize]
+    sbox[byte as usize]
 }
 
-// SubWord(RotWord(w)).
-fn rot_sub_word(sbox: &[u8; 256], w: u32) -> u32
+// SubWord(RotWord(last)).
+fn rot_sub_word(sbox: &[u8; 256], last: u32) -> u32
     requires { ⌜ now sbox ≡ sBox ⌝ }
-    ensures { λ r. ⌜ wordBytes r ≡ subWord (rotWord (wordBytes w)) ⌝ }
+    ensures { λ r. ⌜ wordBytes r ≡ subWord (rotWord (wordBytes last)) ⌝ }
 {
     word(
-        sub_byte(sbox, (w / 0x100 % 0x100) as u8),
-        sub_byte(sbox, (w / 0x1_0000 % 0x100) as u8),
-        sub_byte(sbox, (w / 0x100_0000 % 0x100) as u8),
-        sub_byte(sbox, (w % 0x100) as u8),
+        sub_byte(sbox, (last / 0x100 % 0x100) as u8),
+        sub_byte(sbox, (last / 0x1_0000 % 0x100) as u8),
+        sub_byte(sbox, (last / 0x100_0000 % 0x100) as u8),
+        sub_byte(sbox, (last % 0x100) as u8),
     )
 }
 
-// The next round key. The old words are summed before the substituted one is added, which the cipher waits for.
-fn next_words(sbox: &[u8; 256], k: [u32; 4], rcon: u8) -> [u32; 4]
+// The next round key. The old words are summed first: the substituted word comes late.
+fn next_words(sbox: &[u8; 256], key: [u32; 4], rcon: u8) -> [u32; 4]
     requires { ⌜ now sbox ≡ sBox ⌝ }
-    ensures { λ r. ⌜ wordsBytes r ≡ nextWords (rcon ∷ 0 ∷ 0 ∷ 0 ∷ []) (wordsBytes k) ⌝ }
+    ensures { λ r. ⌜ wordsBytes r ≡ nextWords (rcon ∷ 0 ∷ 0 ∷ 0 ∷ []) (wordsBytes key) ⌝ }
 {
-    let g = rot_sub_word(sbox, k[3]) ^ (rcon as u32);
-    let p = k[1] ^ k[0];
-    let q = k[2] ^ p;
-    let r = k[3] ^ q;
-    [k[0] ^ g, p ^ g, q ^ g, r ^ g]
+    let temp = rot_sub_word(sbox, key[3]) ^ (rcon as u32);
+    let sum1 = key[1] ^ key[0];
+    let sum2 = key[2] ^ sum1;
+    let sum3 = key[3] ^ sum2;
+    [key[0] ^ temp, sum1 ^ temp, sum2 ^ temp, sum3 ^ temp]
 }
 
 fn expand_with(sbox: &[u8; 256], key: [u8; 16]) -> [[u8; 16]; 11]
@@ -142,17 +142,17 @@ fn expand_with(sbox: &[u8; 256], key: [u8; 16]) -> [[u8; 16]; 11]
     ensures { λ r. ⌜ r ≡ roundKeys key ⌝ }
 {
     let rcon = RCON;
-    let mut keys = [[0u8; 16]; 11];
-    keys[0] = key;
-    let mut k = words(key);
+    let mut round_keys = [[0u8; 16]; 11];
+    round_keys[0] = key;
+    let mut last = words(key);
     let mut i = 1;
     while i < 11 {
-        let next = next_words(sbox, k, rcon[i]);
-        k = next;
-        keys[i] = unwords(k);
+        let next = next_words(sbox, last, rcon[i]);
+        last = next;
+        round_keys[i] = unwords(last);
         i += 1;
     }
-    keys
+    round_keys
 }
 
 // The eleven round keys of a key.

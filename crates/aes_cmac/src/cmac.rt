@@ -9,46 +9,47 @@ ghost use Rattle.aes_cmac.specs.Block.{xorBlock};
 ghost use Rattle.aes_cmac.specs.ByTable.{cipherBy};
 ghost use Rattle.aes_cmac.specs.Cmac.{shiftLeft, doubled, subkey1, blockCount, blockAt, paddedByte, paddingAt, lastBlock, chained, macWith, aesCmac};
 
-fn xor_block(a: [u8; 16], b: [u8; 16]) -> [u8; 16]
-    ensures { λ r. ⌜ r ≡ xorBlock a b ⌝ }
+fn xor_block(left: [u8; 16], right: [u8; 16]) -> [u8; 16]
+    ensures { λ r. ⌜ r ≡ xorBlock left right ⌝ }
 {
-    let mut r = [0u8; 16];
+    let mut out = [0u8; 16];
     let mut i = 0;
     while i < 16 {
-        r[i] = a[i] ^ b[i];
+        out[i] = left[i] ^ right[i];
         i += 1;
     }
-    r
+    out
 }
 
 // A byte of a block that is shifted left by one bit, with the byte after it.
-fn shifted(x: u8, next: u8) -> u8
-    ensures { λ r. ⌜ r ≡ x * 2 % 256 + next / 128 ⌝ }
+fn shifted(byte: u8, next: u8) -> u8
+    ensures { λ r. ⌜ r ≡ byte * 2 % 256 + next / 128 ⌝ }
 {
-    (x % 0x80) * 2 + next / 0x80
+    (byte % 0x80) * 2 + next / 0x80
 }
 
-fn shift_left(s: [u8; 16]) -> [u8; 16]
-    ensures { λ r. ⌜ r ≡ shiftLeft s ⌝ }
+fn shift_left(block: [u8; 16]) -> [u8; 16]
+    ensures { λ r. ⌜ r ≡ shiftLeft block ⌝ }
 {
-    let mut r = [0u8; 16];
+    let mut out = [0u8; 16];
     let mut i = 0;
     while i < 15 {
-        r[i] = shifted(s[i], s[i + 1]);
+        out[i] = shifted(block[i], block[i + 1]);
         i += 1;
     }
-    r[15] = shifted(s[15], 0);
-    r
+    out[15] = shifted(block[15], 0);
+    out
 }
 
-fn double(l: [u8; 16]) -> [u8; 16]
-    ensures { λ r. ⌜ r ≡ doubled l ⌝ }
+// From L to K1, and from K1 to K2.
+pub fn double(block: [u8; 16]) -> [u8; 16]
+    ensures { λ r. ⌜ r ≡ doubled block ⌝ }
 {
-    let s = shift_left(l);
-    if l[0] < 0x80 {
-        s
+    let shifted = shift_left(block);
+    if block[0] < 0x80 {
+        shifted
     } else {
-        xor_block(s, [0, 0, 0, 0, 0, 0, 0, 0, 0, 0, 0, 0, 0, 0, 0, 0x87])
+        xor_block(shifted, [0, 0, 0, 0, 0, 0, 0, 0, 0, 0, 0, 0, 0, 0, 0, 0x87])
     }
 }
 
@@ -63,13 +64,13 @@ fn block_at(message: &[u8], at: usize) -> [u8; 16]
     requires { ⌜ at + 16 ≤ length (now message) ⌝ }
     ensures { λ r. ⌜ r ≡ blockAt (now (message .entry)) at ⌝ }
 {
-    let mut r = [0u8; 16];
+    let mut out = [0u8; 16];
     let mut i = 0;
     while i < 16 {
-        r[i] = message[at + i];
+        out[i] = message[at + i];
         i += 1;
     }
-    r
+    out
 }
 
 // A byte of the message followed by its padding.
@@ -89,13 +90,13 @@ fn padding_at(message: &[u8], at: usize) -> [u8; 16]
     requires { ⌜ at ≤ length (now message) ⌝ }
     ensures { λ r. ⌜ r ≡ paddingAt (now (message .entry)) at ⌝ }
 {
-    let mut r = [0u8; 16];
+    let mut out = [0u8; 16];
     let mut i = 0;
     while i < 16 {
-        r[i] = padded_byte(message, at + i);
+        out[i] = padded_byte(message, at + i);
         i += 1;
     }
-    r
+    out
 }
 
 // How many blocks stand before the last.
@@ -122,13 +123,17 @@ fn chain(table: &[u8; 1024], round_keys: [[u8; 16]; 11], message: &[u8], count: 
     requires { ⌜ 16 * count ≤ length (now message) ⌝ }
     ensures { λ r. ⌜ r ≡ chained (cipherBy (now (table .entry)) «round_keys») (now (message .entry)) count ⌝ }
 {
-    let mut x = [0u8; 16];
+    let mut state = [0u8; 16];
     let mut i = 0;
     while i < count {
-        x = encrypt_with(table, round_keys, xor_block(x, block_at(message, 16 * i)));
+        state = encrypt_with(
+            table,
+            round_keys,
+            xor_block(state, block_at(message, 16 * i)),
+        );
         i += 1;
     }
-    x
+    state
 }
 
 // The MAC from a schedule and K1 that were made before.
@@ -140,13 +145,13 @@ pub fn aes_cmac_with(
 ) -> [u8; 16]
     ensures { λ r. ⌜ r ≡ macWith (cipherBy (now (table .entry)) «round_keys») k1 (now (message .entry)) ⌝ }
 {
-    let x = chain(
+    let state = chain(
         table,
         round_keys,
         message,
         blocks_before_last(message.len()),
     );
-    encrypt_with(table, round_keys, xor_block(x, last_block(k1, message)))
+    encrypt_with(table, round_keys, xor_block(state, last_block(k1, message)))
 }
 
 // The same for a message of one block.

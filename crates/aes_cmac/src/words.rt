@@ -4,55 +4,63 @@ ghost use mathlib.Core.List.{[], _∷_};
 ghost use Rattle.aes_cmac.specs.Block.{xorBlock};
 ghost use Rattle.aes_cmac.specs.Words.{wordBytes, wordsBytes, blockWords, stateBytes, rotated};
 
-pub fn word(a: u8, b: u8, c: u8, d: u8) -> u32
-    ensures { λ r. ⌜ wordBytes r ≡ a ∷ b ∷ c ∷ d ∷ [] ⌝ }
+pub fn word(byte0: u8, byte1: u8, byte2: u8, byte3: u8) -> u32
+    ensures { λ r. ⌜ wordBytes r ≡ byte0 ∷ byte1 ∷ byte2 ∷ byte3 ∷ [] ⌝ }
 {
-    (a as u32) + (b as u32) * 0x100 + (c as u32) * 0x1_0000 + (d as u32) * 0x100_0000
+    (byte0 as u32)
+        + (byte1 as u32) * 0x100
+        + (byte2 as u32) * 0x1_0000
+        + (byte3 as u32) * 0x100_0000
 }
 
 // The bytes one place on, the last to the front.
-pub fn rotate(w: u32) -> u32
-    ensures { λ r. ⌜ wordBytes r ≡ rotated (wordBytes w) ⌝ }
+pub fn rotate(word: u32) -> u32
+    ensures { λ r. ⌜ wordBytes r ≡ rotated (wordBytes word) ⌝ }
 {
-    w % 0x100_0000 * 0x100 + w / 0x100_0000
+    word % 0x100_0000 * 0x100 + word / 0x100_0000
 }
 
-pub fn words(b: [u8; 16]) -> [u32; 4]
-    ensures { λ r. ⌜ wordsBytes r ≡ blockWords b ⌝ }
+pub fn words(block: [u8; 16]) -> [u32; 4]
+    ensures { λ r. ⌜ wordsBytes r ≡ blockWords block ⌝ }
 {
     [
-        word(b[0], b[1], b[2], b[3]),
-        word(b[4], b[5], b[6], b[7]),
-        word(b[8], b[9], b[10], b[11]),
-        word(b[12], b[13], b[14], b[15]),
+        word(block[0], block[1], block[2], block[3]),
+        word(block[4], block[5], block[6], block[7]),
+        word(block[8], block[9], block[10], block[11]),
+        word(block[12], block[13], block[14], block[15]),
     ]
 }
 
-pub fn unwords(w: [u32; 4]) -> [u8; 16]
-    ensures { λ r. ⌜ r ≡ stateBytes w ⌝ }
+pub fn unwords(words: [u32; 4]) -> [u8; 16]
+    ensures { λ r. ⌜ r ≡ stateBytes words ⌝ }
 {
     [
-        (w[0] % 0x100) as u8,
-        (w[0] / 0x100 % 0x100) as u8,
-        (w[0] / 0x1_0000 % 0x100) as u8,
-        (w[0] / 0x100_0000 % 0x100) as u8,
-        (w[1] % 0x100) as u8,
-        (w[1] / 0x100 % 0x100) as u8,
-        (w[1] / 0x1_0000 % 0x100) as u8,
-        (w[1] / 0x100_0000 % 0x100) as u8,
-        (w[2] % 0x100) as u8,
-        (w[2] / 0x100 % 0x100) as u8,
-        (w[2] / 0x1_0000 % 0x100) as u8,
-        (w[2] / 0x100_0000 % 0x100) as u8,
-        (w[3] % 0x100) as u8,
-        (w[3] / 0x100 % 0x100) as u8,
-        (w[3] / 0x1_0000 % 0x100) as u8,
-        (w[3] / 0x100_0000 % 0x100) as u8,
+        (words[0] % 0x100) as u8,
+        (words[0] / 0x100 % 0x100) as u8,
+        (words[0] / 0x1_0000 % 0x100) as u8,
+        (words[0] / 0x100_0000 % 0x100) as u8,
+        (words[1] % 0x100) as u8,
+        (words[1] / 0x100 % 0x100) as u8,
+        (words[1] / 0x1_0000 % 0x100) as u8,
+        (words[1] / 0x100_0000 % 0x100) as u8,
+        (words[2] % 0x100) as u8,
+        (words[2] / 0x100 % 0x100) as u8,
+        (words[2] / 0x1_0000 % 0x100) as u8,
+        (words[2] / 0x100_0000 % 0x100) as u8,
+        (words[3] % 0x100) as u8,
+        (words[3] / 0x100 % 0x100) as u8,
+        (words[3] / 0x1_0000 % 0x100) as u8,
+        (words[3] / 0x100_0000 % 0x100) as u8,
     ]
 }
 
-pub fn xor_words(a: [u32; 4], b: [u32; 4]) -> [u32; 4]
-    ensures { λ r. ⌜ stateBytes r ≡ xorBlock (stateBytes a) (stateBytes b) ⌝ }
+pub fn xor_words(left: [u32; 4], right: [u32; 4]) -> [u32; 4]
+    ensures { λ r. ⌜ stateBytes r ≡ xorBlock (stateBytes left) (stateBytes right) ⌝ }
 {
-    [a[0] ^ b[0], a[1] ^ b[1], a[2] ^ b[2], a[3] ^ b[3]]
+    [
+        left[0] ^ right[0],
+        left[1] ^ right[1],
+        left[2] ^ right[2],
+        left[3] ^ right[3],
+    ]
 }

@@ -6,7 +6,7 @@ use Prim.Native.Nat.{ℕ, zero, suc, _+_, _*_, _^_, _/_, _<_}
 use native.Mathlib.Nat.{le-of-suc-le-suc, le-step, lt-suc-self, zero-mul, one-mul}
 use native.Mathlib.Omega.{arith}
 use lib.Bits.{bitXor, xor-self, xor-shr, xor-mod}
-use Rattle.aes_sbox.specs.Field.{bit, polynomialProduct, remainder, mul, inverse}
+use Rattle.aes_sbox.specs.Field.{bit, polynomialProduct, modulus, remainder, mul, inverse}
 use Rattle.octets.proofs.Below.{values, same-below}
 use Rattle.octets.proofs.Xor.{xor-exchange, xor-mul}
 
@@ -35,7 +35,7 @@ product-additive (suc n) a = sum (term n (a * 2 ^ n)) (product-additive n a)
 
 remainder-additive : (n : ℕ) → Additive (remainder n)
 remainder-additive zero = identity
-remainder-additive (suc n) = after (remainder-additive n) (sum (term (8 + n) (283 * 2 ^ n)) identity)
+remainder-additive (suc n) = after (remainder-additive n) (sum (term (8 + n) (modulus * 2 ^ n)) identity)
 
 mul-additive : (a : ℕ) → Additive (mul a)
 unfolding mul

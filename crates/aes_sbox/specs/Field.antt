@@ -15,10 +15,14 @@ abbrev pub polynomialProduct : ℕ → ℕ → ℕ → ℕ
 polynomialProduct zero a b = 0
 polynomialProduct (suc n) a b = bitXor (bit b n * (a * 2 ^ n)) (polynomialProduct n a b)
 
--- the remainder of a, of degree below 8 + n, modulo x^8 + x^4 + x^3 + x + 1 (283 is that polynomial)
+-- x^8 + x^4 + x^3 + x + 1
+abbrev pub modulus : ℕ
+modulus = 283
+
+-- the remainder of a, of degree below 8 + n, modulo that polynomial
 abbrev pub remainder : ℕ → ℕ → ℕ
 remainder zero a = a
-remainder (suc n) a = remainder n (bitXor (bit a (8 + n) * (283 * 2 ^ n)) a)
+remainder (suc n) a = remainder n (bitXor (bit a (8 + n) * (modulus * 2 ^ n)) a)
 
 -- section 4.2: multiplication in GF(2^8)
 unfoldable pub mul : ℕ → ℕ → ℕ

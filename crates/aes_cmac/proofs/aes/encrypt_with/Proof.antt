@@ -6,7 +6,8 @@ use native.Mathlib.Omega.{arith}
 use denote.Ref.{now}
 use lib.ListN.{getD}
 use Rattle.aes_cmac.specs.Block.{xorBlock}
-use Rattle.aes_cmac.specs.Words.{stateBytes, joined}
+use Rattle.aes_cmac.specs.KeyExpansion.{joined}
+use Rattle.aes_cmac.specs.Words.{stateBytes}
 use Rattle.aes_cmac.specs.ByTable.{lastRoundBy, roundsBy, cipherBy}
 use Rattle.aes_cmac.proofs.WordBytes.{xor-words}
 use Rattle.aes_cmac.proofs.FastCipher.{rounds-more}
@@ -14,10 +15,10 @@ use Rattle.aes_cmac.proofs.aes.encrypt_with.Statement.{statement}
 use Rattle.aes_cmac.proofs.aes.encrypt_with.Tie as tie
 
 abbrev Inv-loop : tie.InvT-loop
-Inv-loop table round-keys s₀ i₀ s i = (1 ≤ i) × ((i ≤ 10) × (stateBytes s ≡ roundsBy table round-keys (stateBytes s₀) (i - 1)))
+Inv-loop table round-keys state₀ i₀ state i = (1 ≤ i) × ((i ≤ 10) × (stateBytes state ≡ roundsBy table round-keys (stateBytes state₀) (i - 1)))
 
 abbrev μ-loop : tie.MeasureT-loop
-μ-loop table round-keys s₀ i₀ s i = 10 - i
+μ-loop table round-keys state₀ i₀ state i = 10 - i
 
 loop-holds : tie.Need-loop-holds Inv-loop μ-loop
 unfolding roundsBy

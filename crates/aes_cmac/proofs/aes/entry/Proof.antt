@@ -6,7 +6,7 @@ use Rattle.aes_cmac.proofs.aes.entry.Statement.{statement}
 use Rattle.aes_cmac.proofs.aes.entry.Tie as tie
 
 returns : tie.Need-returns
-returns c = c .word .ensures ∙ rw (add-zero (4 * c .before .before .before .before .before .args .x))
+returns c = c .word .ensures ∙ rw (add-zero (4 * c .before .before .before .before .before .args .byte))
 
 pub entry-spec : {M : Type 1} → statement M
 entry-spec =

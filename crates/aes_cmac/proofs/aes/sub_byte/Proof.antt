@@ -9,7 +9,7 @@ use Rattle.aes_cmac.proofs.aes.sub_byte.Tie as tie
 
 returns : tie.Need-returns
 unfolding subByte
-returns c = ap (λ (l : List ℕ). getD l (c .before .args .x) 0) (c .before .pre)
+returns c = ap (λ (l : List ℕ). getD l (c .before .args .byte) 0) (c .before .pre)
 
 pub sub-byte-spec : {M : Type 1} → statement M
 sub-byte-spec = tie.close (tie.spec (λ c. search needs) returns)

@@ -9,10 +9,10 @@ use Rattle.aes_cmac.proofs.cmac.chain.Statement.{statement}
 use Rattle.aes_cmac.proofs.cmac.chain.Tie as tie
 
 abbrev Inv-loop : tie.InvT-loop
-Inv-loop table round-keys message count x₀ i₀ x i = (i ≤ count) × (x ≡ chained (cipherBy table round-keys) message i)
+Inv-loop table round-keys message count state₀ i₀ state i = (i ≤ count) × (state ≡ chained (cipherBy table round-keys) message i)
 
 abbrev μ-loop : tie.MeasureT-loop
-μ-loop table round-keys message count x₀ i₀ x i = count - i
+μ-loop table round-keys message count state₀ i₀ state i = count - i
 
 loop-holds : tie.Need-loop-holds Inv-loop μ-loop
 unfolding chained

@@ -8,10 +8,10 @@ use Rattle.aes_cmac.proofs.cmac.padding_at.Statement.{statement}
 use Rattle.aes_cmac.proofs.cmac.padding_at.Tie as tie
 
 abbrev Inv-loop : tie.InvT-loop
-Inv-loop message at r₀ i₀ r i = Filled 0 (paddingAt message at) r i
+Inv-loop message at out₀ i₀ out i = Filled 0 (paddingAt message at) out i
 
 abbrev μ-loop : tie.MeasureT-loop
-μ-loop message at r₀ i₀ r i = 16 - i
+μ-loop message at out₀ i₀ out i = 16 - i
 
 loop-holds : tie.Need-loop-holds Inv-loop μ-loop
 unfolding paddingAt

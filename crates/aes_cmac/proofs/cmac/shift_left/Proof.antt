@@ -10,10 +10,10 @@ use Rattle.aes_cmac.proofs.cmac.shift_left.Statement.{statement}
 use Rattle.aes_cmac.proofs.cmac.shift_left.Tie as tie
 
 abbrev Inv-loop : tie.InvT-loop
-Inv-loop s r₀ i₀ r i = Filled 0 (shiftLeft s) r i × (i ≤ 15)
+Inv-loop block out₀ i₀ out i = Filled 0 (shiftLeft block) out i × (i ≤ 15)
 
 abbrev μ-loop : tie.MeasureT-loop
-μ-loop s r₀ i₀ r i = 15 - i
+μ-loop block out₀ i₀ out i = 15 - i
 
 loop-holds : tie.Need-loop-holds Inv-loop μ-loop
 unfolding shiftLeft

@@ -9,10 +9,10 @@ use Rattle.aes_cmac.proofs.cmac.xor_block.Statement.{statement}
 use Rattle.aes_cmac.proofs.cmac.xor_block.Tie as tie
 
 abbrev Inv-loop : tie.InvT-loop
-Inv-loop a b r₀ i₀ r i = Filled 0 (xorBlock a b) r i
+Inv-loop left right out₀ i₀ out i = Filled 0 (xorBlock left right) out i
 
 abbrev μ-loop : tie.MeasureT-loop
-μ-loop a b r₀ i₀ r i = 16 - i
+μ-loop left right out₀ i₀ out i = 16 - i
 
 loop-holds : tie.Need-loop-holds Inv-loop μ-loop
 unfolding xorBlock

@@ -4,7 +4,7 @@ use Rattle.aes_cmac.proofs.words.rotate.Statement.{statement}
 use Rattle.aes_cmac.proofs.words.rotate.Tie as tie
 
 returns : tie.Need-returns
-returns c = bytes-rotate (c .args .w) (search needs)
+returns c = bytes-rotate (c .args .word) (search needs)
 
 pub rotate-spec : {M : Type 1} → statement M
 rotate-spec = tie.close (tie.spec (λ c. search needs) (λ c. search needs) returns)

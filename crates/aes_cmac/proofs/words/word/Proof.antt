@@ -4,7 +4,7 @@ use Rattle.aes_cmac.proofs.words.word.Statement.{statement}
 use Rattle.aes_cmac.proofs.words.word.Tie as tie
 
 returns : tie.Need-returns
-returns c = bytes-pack (c .args .a) (c .args .b) (c .args .c) (c .args .d) (search needs) (search needs) (search needs) (search needs)
+returns c = bytes-pack (c .args .byte0) (c .args .byte1) (c .args .byte2) (c .args .byte3) (search needs) (search needs) (search needs) (search needs)
 
 pub word-spec : {M : Type 1} → statement M
 word-spec =
