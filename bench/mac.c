@@ -2,7 +2,7 @@
 //
 // OpenSSL's side is its low-level AES, AES_set_encrypt_key and AES_encrypt, with no AES instructions. Seen of 3.0.19 on
 // x86-64: both are assembly of integer instructions and lookups in tables, with no test of the processor, and their times
-// do not change with OPENSSL_ia32cap=0:0, where those of EVP double.
+// do not change with OPENSSL_ia32cap=0:0, where that of EVP more than doubles.
 // Each MAC goes into the next input and picks its key, so none is computed ahead or left out. Before anything is timed
 // both sides compute every MAC of the timed run, and each pair is compared.
 #define _POSIX_C_SOURCE 199309L

@@ -34,7 +34,8 @@ fn entry(table: &[u8; 1024], byte: u8) -> u32
 
 // A column of a full round before its key, from the four old columns from its own on.
 fn column(table: &[u8; 1024], word0: u32, word1: u32, word2: u32, word3: u32) -> u32
-    ensures { λ r. ⌜ wordBytes r ≡ columnBy (now (table .entry)) (word0 % 256) (word1 / 256 % 256) (word2 / 65536 % 256) (word3 / 16777216 % 256) ⌝ }
+    ensures { λ r. ⌜ wordBytes r
+        ≡ columnBy (now (table .entry)) (word0 % 256) (word1 / 256 % 256) (word2 / 65536 % 256) (word3 / 16777216 % 256) ⌝ }
 {
     entry(table, (word0 % 0x100) as u8)
         ^ rotate(entry(table, (word1 / 0x100 % 0x100) as u8))
@@ -62,7 +63,8 @@ fn substituted(table: &[u8; 1024], byte: u8) -> u8
 
 // The same of the last round, which does not mix.
 fn last_column(table: &[u8; 1024], word0: u32, word1: u32, word2: u32, word3: u32) -> u32
-    ensures { λ r. ⌜ wordBytes r ≡ lastColumnBy (now (table .entry)) (word0 % 256) (word1 / 256 % 256) (word2 / 65536 % 256) (word3 / 16777216 % 256) ⌝ }
+    ensures { λ r. ⌜ wordBytes r
+        ≡ lastColumnBy (now (table .entry)) (word0 % 256) (word1 / 256 % 256) (word2 / 65536 % 256) (word3 / 16777216 % 256) ⌝ }
 {
     word(
         substituted(table, (word0 % 0x100) as u8),

@@ -7,7 +7,8 @@ ghost use Prim.Native.Nat.{_+_, _-_, _*_, _/_, _%_, _≤_};
 ghost use lib.ListN.{length};
 ghost use Rattle.aes_cmac.specs.Block.{xorBlock};
 ghost use Rattle.aes_cmac.specs.ByTable.{cipherBy};
-ghost use Rattle.aes_cmac.specs.Cmac.{shiftLeft, doubled, subkey1, blockCount, blockAt, paddedByte, paddingAt, lastBlock, chained, macWith, aesCmac};
+ghost use Rattle.aes_cmac.specs.Cmac.{shiftLeft, doubled, subkey1, blockCount, blockAt, paddedByte, paddingAt};
+ghost use Rattle.aes_cmac.specs.Cmac.{lastBlock, chained, macWith, aesCmac};
 
 fn xor_block(left: [u8; 16], right: [u8; 16]) -> [u8; 16]
     ensures { λ r. ⌜ r ≡ xorBlock left right ⌝ }

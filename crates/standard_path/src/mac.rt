@@ -79,7 +79,8 @@ pub fn calculate_hop_mac_with(
     cons_ingress: u16,
     cons_egress: u16,
 ) -> [u8; 6]
-    ensures { λ r. ⌜ r ≡ take 6 (macWith (cipherBy (now (table .entry)) «round_keys») k1 (macInput «mac_chain_beta» timestamp «exp_time» «cons_ingress» «cons_egress»)) ⌝ }
+    ensures { λ r. ⌜ r ≡ take 6 (macWith (cipherBy (now (table .entry)) «round_keys») k1
+        (macInput «mac_chain_beta» timestamp «exp_time» «cons_ingress» «cons_egress»)) ⌝ }
 {
     let data = mac_input_data(
         mac_chain_beta,
