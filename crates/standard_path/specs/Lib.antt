@@ -1,1 +1,4 @@
 pub mod Mac
+pub mod Layout
+pub mod Fields
+pub mod Header

@@ -1,0 +1,21 @@
+use borrow.Author.Needs.{needs}
+use mathlib.Core.List.{[], _∷_}
+use Rattle.standard_path.specs.Fields.{macField}
+use Rattle.standard_path.proofs.view.mac.Statement.{statement}
+use Rattle.standard_path.proofs.view.mac.Tie as tie
+
+returns : tie.Need-returns
+unfolding macField
+returns c = λ i. c .before .before .before .before .before .byte-at .ensures i ∷ c .before .before .before .before .byte-at2 .ensures i ∷ c .before .before .before .byte-at3 .ensures i ∷ c .before .before .byte-at4 .ensures i ∷ c .before .byte-at5 .ensures i ∷ c .byte-at6 .ensures i ∷ []
+
+pub mac-spec : {M : Type 1} → statement M
+mac-spec =
+    tie.close
+    (tie.spec
+    (λ c κs. search needs)
+    (λ c κs. search needs)
+    (λ c κs. search needs)
+    (λ c κs. search needs)
+    (λ c κs. search needs)
+    (λ c κs. search needs)
+    returns)

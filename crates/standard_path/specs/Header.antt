@@ -1,0 +1,63 @@
+-- The header of a path: its counts, its parts, questions 2 to 4, and the segment that a hop lies in.
+-- Assumes nothing.
+use Prim.Native.Nat.{ℕ, _+_}
+use mathlib.Core.Bool.{cond}
+use mathlib.Core.List.{List}
+use lib.Dec.{eqb, ltb}
+use lib.ListN.{length, take, drop}
+use Rattle.standard_path.specs.Layout.{infoCount, hopCount, infoOffset, hopOffset}
+use Rattle.standard_path.specs.Fields.{seg0Len, seg1Len, seg2Len}
+use Rattle.standard_path.specs.declared.view.SegmentIndex.{SegmentIndex}
+use Rattle.standard_path.specs.declared.view.SegmentIndex.the-variants.{At, OutOfBounds}
+use Rattle.standard_path.specs.declared.view.HeaderCheck.{HeaderCheck}
+use Rattle.standard_path.specs.declared.view.HeaderCheck.the-variants.{Complete, MetaTooShort, DataTooShort, TooManyHops}
+
+unfoldable pub infos : List ℕ → ℕ
+infos path = infoCount (seg0Len path) (seg1Len path) (seg2Len path)
+
+unfoldable pub hops : List ℕ → ℕ
+hops path = hopCount (seg0Len path) (seg1Len path) (seg2Len path)
+
+-- the bytes that the header takes
+unfoldable pub headerSize : List ℕ → ℕ
+headerSize path = hopOffset (infos path) (hops path)
+
+-- info field i, and hop field i
+unfoldable pub infoField : List ℕ → ℕ → List ℕ
+infoField path i = take 8 (drop (infoOffset i) path)
+
+unfoldable pub hopField : List ℕ → ℕ → List ℕ
+hopField path i = take 12 (drop (hopOffset (infos path) i) path)
+
+-- 01, 'Before everything', questions 2, 3 and 4
+unfoldable pub headerCheck : List ℕ → HeaderCheck
+headerCheck path =
+    cond (ltb (length path) 4) MetaTooShort
+    (cond (ltb (length path) (headerSize path)) DataTooShort
+    (cond (ltb 64 (hops path)) TooManyHops
+    Complete))
+
+-- ---- a segment is known by its place among the three lengths, empty ones counted
+
+-- the segment of hop h: the first that ends behind it
+abbrev pub segmentOf : ℕ → ℕ → ℕ → ℕ
+segmentOf seg0 seg1 h = cond (ltb h seg0) 0 (cond (ltb h (seg0 + seg1)) 1 2)
+
+-- the hops before segment s, and up to its end
+abbrev pub segmentStart : ℕ → ℕ → ℕ → ℕ
+segmentStart seg0 seg1 s = cond (eqb s 0) 0 (cond (eqb s 1) seg0 (seg0 + seg1))
+
+abbrev pub segmentEnd : ℕ → ℕ → ℕ → ℕ → ℕ
+segmentEnd seg0 seg1 seg2 s = cond (eqb s 0) seg0 (cond (eqb s 1) (seg0 + seg1) (seg0 + seg1 + seg2))
+
+-- the segment of hop h, and whether the hop is its first, and its last
+unfoldable pub segmentAmong : ℕ → ℕ → ℕ → ℕ → SegmentIndex
+segmentAmong seg0 seg1 seg2 h =
+    cond (ltb h (hopCount seg0 seg1 seg2))
+    (At (segmentOf seg0 seg1 h)
+    (eqb h (segmentStart seg0 seg1 (segmentOf seg0 seg1 h)))
+    (eqb (h + 1) (segmentEnd seg0 seg1 seg2 (segmentOf seg0 seg1 h))))
+    OutOfBounds
+
+unfoldable pub segmentIndex : List ℕ → ℕ → SegmentIndex
+segmentIndex path h = segmentAmong (seg0Len path) (seg1Len path) (seg2Len path) h

@@ -1,0 +1,320 @@
+// The fields of a standard path, read out of its bytes and set in them, on all inputs: a byte past the end counts as 0.
+//
+// Ported from crates/libs/sciparse/src/proto/dataplane_path/standard/view.rs and types.rs of Anapaya/scion-sdk at commit
+// 866faf5ba3, and changed: rewritten in Rattle, with contracts; a view is a slice of bytes.
+// Copyright 2026 Anapaya Systems
+// Licensed under the Apache License, Version 2.0: see NOTICE.
+use crate::layout::HopFieldLayout;
+use crate::layout::InfoFieldLayout;
+use crate::layout::StdPathMetaLayout;
+ghost use mathlib.Core.Path.{_≡_};
+ghost use Prim.Native.Nat.{_+_, _*_, _<_};
+ghost use lib.ListN.{drop};
+ghost use Rattle.standard_path.specs.Layout.{nonzero};
+ghost use Rattle.standard_path.specs.Fields.{currInf, currHf, seg0Len, seg1Len, seg2Len, setCurrInf, setCurrHf};
+ghost use Rattle.standard_path.specs.Fields.{consDir, peering, segId, timestamp, consEgressAlert, consIngressAlert};
+ghost use Rattle.standard_path.specs.Fields.{expTime, consIngress, consEgress, macField, travelIngress, travelEgress};
+ghost use Rattle.standard_path.specs.Fields.{travelIngressAlert, travelEgressAlert, expiry};
+ghost use Rattle.standard_path.specs.Header.{infos, hops, headerSize, infoField, hopField, headerCheck, segmentAmong, segmentIndex};
+
+// ---- the meta word
+
+pub fn curr_info_field_idx(path: &[u8]) -> u8
+    ensures { λ r. ⌜ r ≡ currInf (now (path .entry)) ⌝ }
+{
+    octets::byte_at(path, 0) / 0x40
+}
+
+pub fn curr_hop_field_idx(path: &[u8]) -> u8
+    ensures { λ r. ⌜ r ≡ currHf (now (path .entry)) ⌝ }
+{
+    octets::byte_at(path, 0) % 0x40
+}
+
+pub fn seg0_len(path: &[u8]) -> u8
+    ensures { λ r. ⌜ r ≡ seg0Len (now (path .entry)) ⌝ }
+{
+    octets::byte_at(path, 1) % 4 * 0x10 + octets::byte_at(path, 2) / 0x10
+}
+
+pub fn seg1_len(path: &[u8]) -> u8
+    ensures { λ r. ⌜ r ≡ seg1Len (now (path .entry)) ⌝ }
+{
+    octets::byte_at(path, 2) % 0x10 * 4 + octets::byte_at(path, 3) / 0x40
+}
+
+pub fn seg2_len(path: &[u8]) -> u8
+    ensures { λ r. ⌜ r ≡ seg2Len (now (path .entry)) ⌝ }
+{
+    octets::byte_at(path, 3) % 0x40
+}
+
+fn nonzero_length(length: u8) -> u8
+    ensures { λ r. ⌜ r ≡ nonzero length ⌝ }
+{
+    if length == 0 { 0 } else { 1 }
+}
+
+pub fn info_field_count(path: &[u8]) -> u8
+    ensures { λ r. ⌜ r ≡ infos (now (path .entry)) ⌝ }
+{
+    nonzero_length(seg0_len(path)) + nonzero_length(seg1_len(path)) + nonzero_length(seg2_len(path))
+}
+
+pub fn hop_field_count(path: &[u8]) -> u8
+    ensures { λ r. ⌜ r ≡ hops (now (path .entry)) ⌝ }
+{
+    seg0_len(path) + seg1_len(path) + seg2_len(path)
+}
+
+// Two bits are kept of the index.
+pub fn set_curr_info_field(path: &mut [u8], index: u8)
+    ensures { λ _. ⌜ now (path .exit) ≡ setCurrInf (now (path .entry)) index ⌝ }
+{
+    let kept = curr_hop_field_idx(path);
+    octets::put_byte(path, 0, index % 4 * 0x40 + kept);
+}
+
+// Six bits are kept of the index.
+pub fn set_curr_hop_field(path: &mut [u8], index: u8)
+    ensures { λ _. ⌜ now (path .exit) ≡ setCurrHf (now (path .entry)) index ⌝ }
+{
+    let kept = curr_info_field_idx(path);
+    octets::put_byte(path, 0, kept * 0x40 + index % 0x40);
+}
+
+// ---- parts
+
+// What is left from a place on.
+fn rest(path: &[u8], at: usize) -> &[u8]
+    ensures { λ r. ⌜ now r ≡ drop at (now (path .entry)) ⌝ }
+{
+    if at <= path.len() {
+        &path[at..]
+    } else {
+        let end = path.len();
+        &path[end..]
+    }
+}
+
+pub fn info_field(path: &[u8], index: u8) -> &[u8]
+    ensures { λ r. ⌜ now r ≡ infoField (now (path .entry)) index ⌝ }
+{
+    let at = InfoFieldLayout::offset(index);
+    let end = at + InfoFieldLayout::SIZE_BYTES;
+    if end <= path.len() {
+        &path[at..end]
+    } else {
+        rest(path, at)
+    }
+}
+
+pub fn hop_field(path: &[u8], index: u8) -> &[u8]
+    ensures { λ r. ⌜ now r ≡ hopField (now (path .entry)) index ⌝ }
+{
+    let at = HopFieldLayout::offset(info_field_count(path), index);
+    let end = at + HopFieldLayout::SIZE_BYTES;
+    if end <= path.len() {
+        &path[at..end]
+    } else {
+        rest(path, at)
+    }
+}
+
+// ---- the header as a whole
+
+// Whether the bytes hold the whole header, and it has at most 64 hops: 01's questions 2, 3 and 4.
+pub enum HeaderCheck {
+    Complete,
+    MetaTooShort,
+    DataTooShort,
+    TooManyHops,
+}
+
+pub fn check_header(path: &[u8]) -> HeaderCheck
+    ensures { λ r. ⌜ r ≡ headerCheck (now (path .entry)) ⌝ }
+{
+    if path.len() < StdPathMetaLayout::SIZE_BYTES {
+        return HeaderCheck::MetaTooShort;
+    }
+    let hops = hop_field_count(path);
+    if path.len() < HopFieldLayout::offset(info_field_count(path), hops) {
+        return HeaderCheck::DataTooShort;
+    }
+    if StdPathMetaLayout::MAX_TOTAL_HOPS < hops {
+        return HeaderCheck::TooManyHops;
+    }
+    HeaderCheck::Complete
+}
+
+// The segment that a hop lies in, and whether it is the segment's first hop, and its last.
+pub enum SegmentIndex {
+    At { index: u8, start: bool, end: bool },
+    OutOfBounds,
+}
+
+fn segment_of(seg0: u8, seg1: u8, seg2: u8, hop: u8) -> SegmentIndex
+    requires { ⌜ (seg0 < 64) × ((seg1 < 64) × (seg2 < 64)) ⌝ }
+    ensures { λ r. ⌜ r ≡ segmentAmong seg0 seg1 seg2 hop ⌝ }
+{
+    if hop < seg0 {
+        return SegmentIndex::At {
+            index: 0,
+            start: hop == 0,
+            end: hop + 1 == seg0,
+        };
+    }
+    if hop < seg0 + seg1 {
+        return SegmentIndex::At {
+            index: 1,
+            start: hop == seg0,
+            end: hop + 1 == seg0 + seg1,
+        };
+    }
+    if hop < seg0 + seg1 + seg2 {
+        return SegmentIndex::At {
+            index: 2,
+            start: hop == seg0 + seg1,
+            end: hop + 1 == seg0 + seg1 + seg2,
+        };
+    }
+    SegmentIndex::OutOfBounds
+}
+
+pub fn calculate_segment_index(path: &[u8], hop_idx: u8) -> SegmentIndex
+    ensures { λ r. ⌜ r ≡ segmentIndex (now (path .entry)) «hop_idx» ⌝ }
+{
+    segment_of(seg0_len(path), seg1_len(path), seg2_len(path), hop_idx)
+}
+
+// ---- an info field
+
+pub fn cons_dir(info: &[u8]) -> bool
+    ensures { λ r. ⌜ r ≡ consDir (now (info .entry)) ⌝ }
+{
+    octets::byte_at(info, 0) % 2 == 1
+}
+
+// The flag P. The step gives it no meaning.
+pub fn peering_flag(info: &[u8]) -> bool
+    ensures { λ r. ⌜ r ≡ peering (now (info .entry)) ⌝ }
+{
+    octets::byte_at(info, 0) / 2 % 2 == 1
+}
+
+pub fn segment_id(info: &[u8]) -> u16
+    ensures { λ r. ⌜ r ≡ segId (now (info .entry)) ⌝ }
+{
+    octets::u16_at(info, InfoFieldLayout::SEGMENT_ID)
+}
+
+pub fn info_timestamp(info: &[u8]) -> u32
+    ensures { λ r. ⌜ r ≡ timestamp (now (info .entry)) ⌝ }
+{
+    octets::u32_at(info, InfoFieldLayout::TIMESTAMP)
+}
+
+// ---- a hop field
+
+pub fn cons_egress_router_alert(hop: &[u8]) -> bool
+    ensures { λ r. ⌜ r ≡ consEgressAlert (now (hop .entry)) ⌝ }
+{
+    octets::byte_at(hop, 0) % 2 == 1
+}
+
+pub fn cons_ingress_router_alert(hop: &[u8]) -> bool
+    ensures { λ r. ⌜ r ≡ consIngressAlert (now (hop .entry)) ⌝ }
+{
+    octets::byte_at(hop, 0) / 2 % 2 == 1
+}
+
+pub fn exp_time(hop: &[u8]) -> u8
+    ensures { λ r. ⌜ r ≡ expTime (now (hop .entry)) ⌝ }
+{
+    octets::byte_at(hop, 1)
+}
+
+pub fn cons_ingress(hop: &[u8]) -> u16
+    ensures { λ r. ⌜ r ≡ consIngress (now (hop .entry)) ⌝ }
+{
+    octets::u16_at(hop, HopFieldLayout::CONS_INGRESS)
+}
+
+pub fn cons_egress(hop: &[u8]) -> u16
+    ensures { λ r. ⌜ r ≡ consEgress (now (hop .entry)) ⌝ }
+{
+    octets::u16_at(hop, HopFieldLayout::CONS_EGRESS)
+}
+
+pub fn mac(hop: &[u8]) -> [u8; 6]
+    ensures { λ r. ⌜ r ≡ macField (now (hop .entry)) ⌝ }
+{
+    [
+        octets::byte_at(hop, 6),
+        octets::byte_at(hop, 7),
+        octets::byte_at(hop, 8),
+        octets::byte_at(hop, 9),
+        octets::byte_at(hop, 10),
+        octets::byte_at(hop, 11),
+    ]
+}
+
+// ---- a hop field in travel direction
+
+pub fn ingress_interface(hop: &[u8], info: &[u8]) -> u16
+    ensures { λ r. ⌜ r ≡ travelIngress (consDir (now (info .entry))) (now (hop .entry)) ⌝ }
+{
+    if cons_dir(info) {
+        cons_ingress(hop)
+    } else {
+        cons_egress(hop)
+    }
+}
+
+pub fn egress_interface(hop: &[u8], info: &[u8]) -> u16
+    ensures { λ r. ⌜ r ≡ travelEgress (consDir (now (info .entry))) (now (hop .entry)) ⌝ }
+{
+    if cons_dir(info) {
+        cons_egress(hop)
+    } else {
+        cons_ingress(hop)
+    }
+}
+
+pub fn ingress_scmp_alert(hop: &[u8], info: &[u8]) -> bool
+    ensures { λ r. ⌜ r ≡ travelIngressAlert (consDir (now (info .entry))) (now (hop .entry)) ⌝ }
+{
+    if cons_dir(info) {
+        cons_ingress_router_alert(hop)
+    } else {
+        cons_egress_router_alert(hop)
+    }
+}
+
+pub fn egress_scmp_alert(hop: &[u8], info: &[u8]) -> bool
+    ensures { λ r. ⌜ r ≡ travelEgressAlert (consDir (now (info .entry))) (now (hop .entry)) ⌝ }
+{
+    if cons_dir(info) {
+        cons_egress_router_alert(hop)
+    } else {
+        cons_ingress_router_alert(hop)
+    }
+}
+
+// The second in which a hop field ends, capped at the largest number of 32 bits.
+fn end_of(start: u32, units: u8) -> u32
+    ensures { λ r. ⌜ r ≡ expiry start units ⌝ }
+{
+    let end = (start as u64) + ((units as u64) + 1) * 675 / 2;
+    if end < 0xffff_ffff {
+        end as u32
+    } else {
+        0xffff_ffff
+    }
+}
+
+pub fn expiry_timestamp(hop: &[u8], info: &[u8]) -> u32
+    ensures { λ r. ⌜ r ≡ expiry (timestamp (now (info .entry))) (expTime (now (hop .entry))) ⌝ }
+{
+    end_of(info_timestamp(info), exp_time(hop))
+}
