@@ -121,6 +121,18 @@ pub fn hop_field(path: &[u8], index: u8) -> &[u8]
     }
 }
 
+pub fn curr_info_field(path: &[u8]) -> &[u8]
+    ensures { λ r. ⌜ now r ≡ infoField (now (path .entry)) (currInf (now (path .entry))) ⌝ }
+{
+    info_field(path, curr_info_field_idx(path))
+}
+
+pub fn curr_hop_field(path: &[u8]) -> &[u8]
+    ensures { λ r. ⌜ now r ≡ hopField (now (path .entry)) (currHf (now (path .entry))) ⌝ }
+{
+    hop_field(path, curr_hop_field_idx(path))
+}
+
 // ---- the header as a whole
 
 // Whether the bytes hold the whole header, and it has at most 64 hops: 01's questions 2, 3 and 4.

@@ -1,0 +1,4 @@
+pub mod Scans
+pub mod Links
+pub mod Unique
+pub mod Entries

@@ -1,0 +1,22 @@
+use borrow.Author.Needs.{needs}
+use Rattle.standard_path.specs.Moves.{setSegId}
+use Rattle.standard_path.proofs.moves.set_segment_id.Statement.{statement}
+use Rattle.standard_path.proofs.moves.set_segment_id.Tie as tie
+
+returns : tie.Need-returns
+unfolding setSegId
+returns c = cc
+
+pub set-segment-id-spec : {M : Type 1} → statement M
+set-segment-id-spec =
+    tie.close
+    (tie.spec
+    (λ c κs. search needs)
+    (λ c. search needs)
+    (λ c. search needs)
+    (λ c κs. search needs)
+    (λ c. search needs)
+    (λ c. search needs)
+    (λ c κs. search needs)
+    (λ c. search needs)
+    returns)

@@ -1,0 +1,31 @@
+-- Laws of questions in order, over any list of them.
+-- Assumes nothing.
+use mathlib.Core.Path.{_≡_, refl}
+use mathlib.Core.Bool.{Bool, true, false}
+use mathlib.Core.List.{[], _∷_, _++_}
+use Prim.Native.Nat.{ℕ}
+use native.Mathlib.Omega.{arith}
+use Rattle.validator.specs.Questions.{Questions, firstNo}
+use Rattle.validator.specs.declared.answer.StandardRoutingError.{StandardRoutingError}
+use Rattle.validator.specs.declared.answer.Validation.the-variants.{Valid, Invalid}
+
+-- a yes to the first of them, and to the rest
+pub asked-first : (asked : Bool) (why : StandardRoutingError) (more : Questions) → firstNo ((asked, why) ∷ more) ≡ Valid
+    → (asked ≡ true) × (firstNo more ≡ Valid)
+unfolding firstNo
+asked-first true why more e = (refl, e)
+asked-first false why more e = let z : _≡_ {A = ℕ} 0 1 = cc in absurd (omega arith)
+
+-- all of the first part answered yes: the rest decides
+pub goes-on : (first more : Questions) → firstNo first ≡ Valid → firstNo (first ++ more) ≡ firstNo more
+unfolding firstNo
+goes-on [] more e = refl
+goes-on ((true, why) ∷ first) more e = goes-on first more e
+goes-on ((false, why) ∷ first) more e = let z : _≡_ {A = ℕ} 0 1 = cc in absurd (omega arith)
+
+-- a no in the first part: it decides
+pub stops : (first more : Questions) (why : StandardRoutingError) → firstNo first ≡ Invalid why → firstNo (first ++ more) ≡ Invalid why
+unfolding firstNo
+stops [] more why e = let z : _≡_ {A = ℕ} 0 1 = cc in absurd (omega arith)
+stops ((true, other) ∷ first) more why e = stops first more why e
+stops ((false, other) ∷ first) more why e = e
