@@ -2,4 +2,5 @@
 pub mod layout;
 pub mod mac;
 pub mod moves;
+pub mod segments;
 pub mod view;

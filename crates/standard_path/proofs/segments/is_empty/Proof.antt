@@ -1,0 +1,9 @@
+use borrow.Author.Needs.{needs}
+use Rattle.standard_path.proofs.segments.is_empty.Statement.{statement}
+use Rattle.standard_path.proofs.segments.is_empty.Tie as tie
+
+returns : tie.Need-returns
+returns c = cc
+
+pub is-empty-spec : {M : Type 1} → statement M
+is-empty-spec = tie.close (tie.spec (λ c κs. search needs) returns)

@@ -1,0 +1,91 @@
+-- 01, 'view.rs': the segments of a path before the first zero length, a step of a walk along them, and when the path ends.
+-- Assumes nothing.
+use Prim.Native.Nat.{ℕ, _+_, min}
+use mathlib.Core.Bool.{cond}
+use mathlib.Core.List.{List, [], _∷_, map}
+use lib.Dec.{eqb, ltb, leb}
+use lib.ListN.{length, getD}
+use Rattle.octets.specs.Bytes.{tabulate}
+use Rattle.standard_path.specs.Fields.{seg0Len, seg1Len, seg2Len, timestamp, expTime, expiry}
+use Rattle.standard_path.specs.Header.{hops, infoField, hopField, headerCheck}
+use Rattle.standard_path.specs.declared.view.HeaderCheck.{HeaderCheck}
+use Rattle.standard_path.specs.declared.view.HeaderCheck.the-variants as check
+use Rattle.standard_path.specs.declared.segments.SegmentPlace.{SegmentPlace}
+use Rattle.standard_path.specs.declared.segments.SegmentStep.{SegmentStep}
+use Rattle.standard_path.specs.declared.segments.SegmentStep.the-variants.{Segment, End}
+use Rattle.standard_path.specs.declared.segments.PathExpiration.{PathExpiration}
+use Rattle.standard_path.specs.declared.segments.PathExpiration.the-variants.{At, MetaTooShort, DataTooShort, TooManyHops}
+
+-- ---- the segments
+
+-- the index of a segment's info field, that of its first hop, and the number of its hops
+pub record PathSegment : Type 0 where
+  pub info : ℕ
+  pub first : ℕ
+  pub count : ℕ
+
+-- those of a list of lengths before its first zero, the first of them with info field s and first hop h
+abbrev pub segmentsFrom : ℕ → ℕ → List ℕ → List PathSegment
+segmentsFrom s h [] = []
+segmentsFrom s h (n ∷ lengths) =
+    cond (eqb n 0) [] (record { info = s; first = h; count = n } ∷ segmentsFrom (s + 1) (h + n) lengths)
+
+abbrev pub lengths : List ℕ → List ℕ
+lengths path = seg0Len path ∷ seg1Len path ∷ seg2Len path ∷ []
+
+unfoldable pub segments : List ℕ → List PathSegment
+segments path = segmentsFrom 0 0 (lengths path)
+
+unfoldable pub segmentCount : List ℕ → ℕ
+segmentCount path = length (segments path)
+
+-- ---- a step of a walk
+
+abbrev pub firstPlace : SegmentPlace
+firstPlace = record { «seg_idx» = 0; «hop_idx» = 0 }
+
+-- the length of segment s, 0 past the third
+unfoldable pub segLen : List ℕ → ℕ → ℕ
+segLen path s = getD (lengths path) s 0
+
+-- the segment at a place and the place behind it; the end where no segment is left, or its hops are not all there
+unfoldable pub nextSegment : List ℕ → SegmentPlace → SegmentStep
+nextSegment path place =
+    cond (leb (segmentCount path) (place .«seg_idx»)) End
+    (cond (ltb (hops path) (place .«hop_idx» + segLen path (place .«seg_idx»))) End
+    (Segment (place .«seg_idx») (place .«hop_idx») (segLen path (place .«seg_idx»))
+    (record { «seg_idx» = place .«seg_idx» + 1; «hop_idx» = place .«hop_idx» + segLen path (place .«seg_idx») })))
+
+-- ---- when a path ends
+
+-- the least of a list of times, of which none is above the cap
+abbrev pub least : List ℕ → ℕ
+least [] = 4294967295
+least (time ∷ times) = min time (least times)
+
+unfoldable pub hopExpiry : List ℕ → ℕ → ℕ → ℕ
+hopExpiry path info hop = expiry (timestamp (infoField path info)) (expTime (hopField path hop))
+
+unfoldable pub segmentExpiry : List ℕ → PathSegment → ℕ
+segmentExpiry path segment = least (tabulate (segment .count) (segment .first) (hopExpiry path (segment .info)))
+
+-- the least expiry over the segments, 0 if there are none
+unfoldable pub pathExpiry : List ℕ → ℕ
+pathExpiry path = cond (eqb (segmentCount path) 0) 0 (least (map (segmentExpiry path) (segments path)))
+
+-- questions 2, 3 and 4 first
+abbrev pub expirationAfter : HeaderCheck → ℕ → PathExpiration
+expirationAfter check.Complete time = At time
+expirationAfter check.MetaTooShort time = MetaTooShort
+expirationAfter check.DataTooShort time = DataTooShort
+expirationAfter check.TooManyHops time = TooManyHops
+
+unfoldable pub expiration : List ℕ → PathExpiration
+expiration path = expirationAfter (headerCheck path) (pathExpiry path)
+
+-- 01's number of a refusal; 0 for a time
+unfoldable pub expirationNumber : PathExpiration → ℕ
+expirationNumber (At time) = 0
+expirationNumber MetaTooShort = 2
+expirationNumber DataTooShort = 3
+expirationNumber TooManyHops = 4
