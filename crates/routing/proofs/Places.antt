@@ -1,0 +1,100 @@
+-- What the header's reader and the segment index say, in the words of the questions.
+-- Assumes nothing.
+use mathlib.Core.Path.{_≡_, refl}
+use mathlib.Core.Bool.{Bool, true, false, not, cond}
+use mathlib.Core.List.{List}
+use Prim.Native.Nat.{ℕ, _+_}
+use native.Mathlib.Omega.{arith}
+use borrow.Author.Tests.{lt-leb, le-leb, ltb-true, ltb-false}
+use lib.Dec.{eqb, ltb, leb}
+use lib.ListN.{length}
+use Rattle.standard_path.specs.Fields.{seg0Len, seg1Len, seg2Len}
+use Rattle.standard_path.specs.Header.{hops, headerSize, headerCheck, segmentOf, segmentStart, segmentEnd, segmentAmong, segmentIndex}
+use Rattle.standard_path.specs.declared.view.HeaderCheck.{HeaderCheck}
+use Rattle.standard_path.specs.declared.view.HeaderCheck.the-variants as header
+use Rattle.standard_path.specs.declared.view.SegmentIndex.the-variants.{At, OutOfBounds}
+use Rattle.validator.specs.Questions.{firstNo}
+use Rattle.validator.specs.declared.answer.StandardRoutingError.the-variants.{MetaTooShort, DataTooShort, TooManyHops}
+use Rattle.validator.specs.declared.answer.Validation.{Validation}
+use Rattle.validator.specs.declared.answer.Validation.the-variants.{Valid, Invalid}
+use Rattle.validator.specs.declared.answer.StandardRoutingError.{StandardRoutingError}
+use Rattle.routing.specs.declared.place.Located.the-variants.{Here, Nowhere}
+use Rattle.routing.specs.Place.{headerQuestions, located}
+
+leb-is : (low high : ℕ) → leb low high ≡ not (ltb high low)
+leb-is low high = go (ltb high low) refl
+  where
+    go : (less : Bool) → ltb high low ≡ less → leb low high ≡ not less
+    go true e = lt-leb low high (ltb-true high low e)
+    go false e = le-leb low high (ltb-false high low e)
+
+abbrev pub asValidation : HeaderCheck → Validation
+asValidation header.Complete = Valid
+asValidation header.MetaTooShort = Invalid MetaTooShort
+asValidation header.DataTooShort = Invalid DataTooShort
+asValidation header.TooManyHops = Invalid TooManyHops
+
+pub header-law : (path : List ℕ) → firstNo (headerQuestions path) ≡ asValidation (headerCheck path)
+unfolding firstNo headerCheck
+header-law path =
+    rw (leb-is 4 (length path), leb-is (headerSize path) (length path), leb-is (hops path) 64)
+    (go (ltb (length path) 4) (ltb (length path) (headerSize path)) (ltb 64 (hops path)))
+  where
+    go : (short cut many : Bool)
+        → cond (not short) (cond (not cut) (cond (not many) Valid (Invalid TooManyHops)) (Invalid DataTooShort)) (Invalid MetaTooShort)
+        ≡ asValidation (cond short header.MetaTooShort (cond cut header.DataTooShort (cond many header.TooManyHops header.Complete)))
+    go true cut many = refl
+    go false true many = refl
+    go false false true = refl
+    go false false false = refl
+
+-- a hop that lies in a segment
+pub record Lies (path : List ℕ) (h index : ℕ) (start end : Bool) : Type 0 where
+  pub inside : ltb h (hops path) ≡ true
+  pub segment : segmentOf (seg0Len path) (seg1Len path) h ≡ index
+  pub first : eqb h (segmentStart (seg0Len path) (seg1Len path) index) ≡ start
+  pub last : eqb (h + 1) (segmentEnd (seg0Len path) (seg1Len path) (seg2Len path) index) ≡ end
+
+pub lies : (path : List ℕ) (h : ℕ) {index : ℕ} {start end : Bool} → segmentIndex path h ≡ At index start end → Lies path h index start end
+unfolding segmentIndex segmentAmong hops
+lies path h {index} {start} {end} e = go (ltb h (hops path)) refl e
+  where
+    go : (inside : Bool) → ltb h (hops path) ≡ inside
+        → cond inside
+        (At (segmentOf (seg0Len path) (seg1Len path) h)
+        (eqb h (segmentStart (seg0Len path) (seg1Len path) (segmentOf (seg0Len path) (seg1Len path) h)))
+        (eqb (h + 1) (segmentEnd (seg0Len path) (seg1Len path) (seg2Len path) (segmentOf (seg0Len path) (seg1Len path) h))))
+        OutOfBounds
+        ≡ At index start end → Lies path h index start end
+    go true i q = record { inside = i; segment = cc; first = cc; last = cc }
+    go false i q = let z : _≡_ {A = ℕ} 0 1 = cc in absurd (omega arith)
+
+pub lies-nowhere : (path : List ℕ) (h : ℕ) → segmentIndex path h ≡ OutOfBounds → ltb h (hops path) ≡ false
+unfolding segmentIndex segmentAmong hops
+lies-nowhere path h e = go (ltb h (hops path)) refl e
+  where
+    go : (inside : Bool) → ltb h (hops path) ≡ inside
+        → cond inside
+        (At (segmentOf (seg0Len path) (seg1Len path) h)
+        (eqb h (segmentStart (seg0Len path) (seg1Len path) (segmentOf (seg0Len path) (seg1Len path) h)))
+        (eqb (h + 1) (segmentEnd (seg0Len path) (seg1Len path) (seg2Len path) (segmentOf (seg0Len path) (seg1Len path) h))))
+        OutOfBounds
+        ≡ OutOfBounds → ltb h (hops path) ≡ false
+    go true i q = let z : _≡_ {A = ℕ} 0 1 = cc in absurd (omega arith)
+    go false i q = i
+
+-- where the path was found to stand
+pub record Stands (asked : Validation) (change last here final : Bool) : Type 0 where
+  pub valid : asked ≡ Valid
+  pub changed : change ≡ here
+  pub ended : last ≡ final
+
+pub located-here : (asked : Validation) (change last : Bool) {here final : Bool} → located asked change last ≡ Here here final
+    → Stands asked change last here final
+located-here Valid change last e = record { valid = refl; changed = cc; ended = cc }
+located-here (Invalid why) change last e = let z : _≡_ {A = ℕ} 0 1 = cc in absurd (omega arith)
+
+pub located-nowhere : (asked : Validation) (change last : Bool) {why : StandardRoutingError} → located asked change last ≡ Nowhere why
+    → asked ≡ Invalid why
+located-nowhere Valid change last e = let z : _≡_ {A = ℕ} 0 1 = cc in absurd (omega arith)
+located-nowhere (Invalid other) change last e = cc

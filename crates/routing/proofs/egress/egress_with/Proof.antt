@@ -1,0 +1,38 @@
+use borrow.Author.Needs.{needs}
+use mathlib.Core.Path.{refl}
+use Rattle.routing.specs.Egress.{egress}
+use Rattle.routing.proofs.egress.egress_with.Statement.{statement}
+use Rattle.routing.proofs.egress.egress_with.Tie as tie
+
+returns : tie.Need-returns
+unfolding egress
+returns c = rw (← c .before .before .before .check-before .ensures, c .before .why .given .1) (refl, refl)
+
+returns-2 : tie.Need-returns-2
+unfolding egress
+returns-2 c = rw (← c .before .before .before .before .before .before .before .check-before .ensures, c .before .before .before .before .before .enum-told .given .1, ← c .before .before .before .locate-egress .ensures, c .before .why2 .given .1) (refl, refl)
+
+returns-3 : tie.Need-returns-3
+unfolding egress
+returns-3 c =
+    rw (← c .before .before .before .before .before .before .before .before .before .before .before .before .check-before .ensures, c .before .before .before .before .before .before .before .before .before .before .enum-told .given .1, ← c .before .before .before .before .before .before .before .before .locate-egress .ensures, c .before .before .before .before .before .before .enum-told2 .given .1)
+    (c .before .before .before .before .decide-egress .ensures, c .before .before .move-egress .ensures)
+
+pub egress-with-spec : {M : Type 1} → statement M
+egress-with-spec =
+    tie.close
+    (tie.spec
+    (λ c κs. search needs)
+    (λ c. search needs)
+    (λ c. search needs)
+    returns
+    (λ c. search needs)
+    (λ c κs. search needs)
+    (λ c. search needs)
+    (λ c. search needs)
+    returns-2
+    (λ c. search needs)
+    (λ c κs. search needs)
+    (λ c κs. search needs)
+    (λ c. search needs)
+    returns-3)

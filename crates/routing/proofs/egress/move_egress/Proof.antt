@@ -1,0 +1,24 @@
+use borrow.Author.Needs.{needs}
+use Rattle.routing.specs.Egress.{egressMove}
+use Rattle.routing.proofs.egress.move_egress.Statement.{statement}
+use Rattle.routing.proofs.egress.move_egress.Tie as tie
+
+returns : tie.Need-returns
+unfolding egressMove
+returns c =
+    rw (c .before .before .before .before .before .before .clear-egress-alert .ensures, c .before .before .before .before .before .before .before .before .before .before .beta-step .ensures, c .before .before .before .before .before .before .before .before .before .before .before .before .cons-dir .ensures, c .before .before .before .before .before .before .before .before .before .before .before .before .before .curr-info-field .ensures, c .before .before .before .before .before .before .before .before .before .before .before .before .before .before .before .curr-hop-field-idx .ensures)
+    at (c .before .before .set-curr-hop-field .ensures)
+
+pub move-egress-spec : {M : Type 1} → statement M
+move-egress-spec =
+    tie.close
+    (tie.spec
+    (λ c κs. search needs)
+    (λ c κs. search needs)
+    (λ c κs. search needs)
+    (λ c κs. search needs)
+    (λ c κs. search needs)
+    (λ c. search needs)
+    (λ c κs. search needs)
+    (λ c. search needs)
+    returns)

@@ -1,0 +1,20 @@
+use borrow.Author.Needs.{needs}
+use Rattle.routing.proofs.ingress.decide_ingress.Statement.{statement}
+use Rattle.routing.proofs.ingress.decide_ingress.Tie as tie
+
+returns : tie.Need-returns
+returns c = rw (← c .before .before .before .validate-ingress .ensures, c .before .enum-told .given .1) (c .ingress-action .ensures)
+
+returns-2 : tie.Need-returns-2
+returns-2 c = rw (← c .before .before .before .validate-ingress .ensures, c .before .why .given .1)
+
+pub decide-ingress-spec : {M : Type 1} → statement M
+decide-ingress-spec =
+    tie.close
+    (tie.spec
+    (λ c κs. search needs)
+    (λ c. search needs)
+    (λ c κs. search needs)
+    (λ c. search needs)
+    returns
+    returns-2)

@@ -1,0 +1,34 @@
+use borrow.Author.Needs.{needs}
+use native.Mathlib.Omega.{arith}
+use Rattle.routing.specs.Ingress.{ingressMove}
+use Rattle.routing.proofs.ingress.move_ingress.Statement.{statement}
+use Rattle.routing.proofs.ingress.move_ingress.Tie as tie
+
+add-set-curr-info-field : tie.Need-add-set-curr-info-field
+add-set-curr-info-field c = omega (arith, c .before .before .before .before .before .before .before .before .before .before .before .before .before .before .slice-known .given 0)
+
+returns : tie.Need-returns
+unfolding ingressMove
+returns c =
+    rw (c .before .before .before .before .before .before .before .before .if1 .taken)
+    (rw (c .before .before .before .before .before .before .set-curr-hop-field .ensures, c .before .before .before .before .before .before .before .before .before .before .before .move-fields .ensures, c .before .before .before .before .before .before .before .before .before .before .before .before .before .before .before .curr-hop-field-idx .ensures, c .before .before .before .before .before .before .before .before .before .before .before .before .before .curr-info-field-idx .ensures) at (c .before .before .set-curr-info-field .ensures))
+
+returns-2 : tie.Need-returns-2
+unfolding ingressMove
+returns-2 c = rw (c .if1 .left) (c .before .before .before .move-fields .ensures)
+
+pub move-ingress-spec : {M : Type 1} → statement M
+move-ingress-spec =
+    tie.close
+    (tie.spec
+    (λ c κs. search needs)
+    (λ c κs. search needs)
+    (λ c κs. search needs)
+    (λ c. search needs)
+    (λ c κs. search needs)
+    add-set-curr-info-field
+    (λ c κs. search needs)
+    (λ c. search needs)
+    returns
+    (λ c. search needs)
+    returns-2)

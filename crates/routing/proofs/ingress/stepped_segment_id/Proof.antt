@@ -1,0 +1,18 @@
+use borrow.Author.Needs.{needs}
+use Rattle.routing.proofs.ingress.stepped_segment_id.Statement.{statement}
+use Rattle.routing.proofs.ingress.stepped_segment_id.Tie as tie
+
+returns : tie.Need-returns
+returns c =
+    rw (c .before .before .before .segment-id .ensures, c .before .mac .ensures, c .before .before .before .before .curr-info-field .ensures, c .before .before .curr-hop-field .ensures) at (c .mac-beta-step .ensures)
+
+pub stepped-segment-id-spec : {M : Type 1} → statement M
+stepped-segment-id-spec =
+    tie.close
+    (tie.spec
+    (λ c κs. search needs)
+    (λ c κs. search needs)
+    (λ c κs. search needs)
+    (λ c κs. search needs)
+    (λ c κs. search needs)
+    returns)

@@ -1,0 +1,82 @@
+-- 01, 'Questions in order': questions 1 to 8 and 18, which find out where the path stands. A no leaves the bytes as they are.
+-- Assumes nothing.
+use Prim.Native.Nat.{ℕ, _+_}
+use mathlib.Core.Bool.{Bool, not, _&&_, _||_}
+use mathlib.Core.List.{List, [], _∷_}
+use lib.Dec.{eqb, ltb, leb}
+use lib.ListN.{length}
+use Rattle.standard_path.specs.Fields.{currInf, currHf, seg0Len, seg1Len, seg2Len}
+use Rattle.standard_path.specs.Header.{infos, hops, headerSize, segmentOf, segmentStart, segmentEnd}
+use Rattle.interface_table.specs.Table.{tableSound}
+use Rattle.validator.specs.Questions.{Questions}
+use Rattle.validator.specs.declared.answer.Validation.{Validation}
+use Rattle.validator.specs.declared.answer.Validation.the-variants.{Valid, Invalid}
+use Rattle.routing.specs.declared.place.Located.{Located}
+use Rattle.routing.specs.declared.place.Located.the-variants.{Here, Nowhere}
+use Rattle.validator.specs.declared.answer.AdvanceError.the-variants.{HopOutOfBounds, InfoOutOfBounds, InvalidSegmentIndex, SingleHopSegment, SegmentEnd}
+use Rattle.validator.specs.declared.answer.StandardRoutingError.the-variants.{UnsoundTable, MetaTooShort, DataTooShort, TooManyHops, AdvanceFailed}
+
+-- 2, 3, 4
+abbrev pub headerQuestions : List ℕ → Questions
+headerQuestions path =
+    (leb 4 (length path), MetaTooShort)
+    ∷ (leb (headerSize path) (length path), DataTooShort)
+    ∷ (leb (hops path) 64, TooManyHops)
+    ∷ []
+
+-- 1, then these: 'Before everything'
+abbrev pub before : List ℕ → List ℕ → List ℕ → Questions
+before ids states path = (tableSound ids states, UnsoundTable) ∷ headerQuestions path
+
+-- ---- the current hop
+
+-- its segment
+abbrev pub segment : List ℕ → ℕ
+segment path = segmentOf (seg0Len path) (seg1Len path) (currHf path)
+
+-- the first of its segment, and the last
+abbrev pub starts : List ℕ → Bool
+starts path = eqb (currHf path) (segmentStart (seg0Len path) (seg1Len path) (segment path))
+
+abbrev pub ends : List ℕ → Bool
+ends path = eqb (currHf path + 1) (segmentEnd (seg0Len path) (seg1Len path) (seg2Len path) (segment path))
+
+-- the last of the path
+abbrev pub isFinal : List ℕ → Bool
+isFinal path = leb (hops path) (currHf path + 1)
+
+-- it is alone in its segment
+abbrev pub alone : List ℕ → Bool
+alone path = starts path && ends path
+
+-- it makes a segment change: it ends its segment and not the path
+abbrev pub changes : List ℕ → Bool
+changes path = ends path && not (isFinal path)
+
+-- ---- ingress: 5, 6, 7, 8
+
+abbrev pub ingressPlace : List ℕ → Questions
+ingressPlace path =
+    (ltb (currHf path) (hops path), AdvanceFailed (HopOutOfBounds (currHf path)))
+    ∷ (not (alone path), AdvanceFailed SingleHopSegment)
+    ∷ (eqb (segment path) (currInf path), AdvanceFailed (InvalidSegmentIndex (segment path) (currInf path)))
+    ∷ (ltb (currInf path) (infos path), AdvanceFailed (InfoOutOfBounds (currInf path)))
+    ∷ (not (changes path) || ltb (segment path + 1) (infos path), AdvanceFailed (InfoOutOfBounds (segment path + 1)))
+    ∷ []
+
+-- ---- egress: 5, 7, 8, 5 for the next hop, 18
+
+abbrev pub egressPlace : List ℕ → Questions
+egressPlace path =
+    (ltb (currHf path) (hops path), AdvanceFailed (HopOutOfBounds (currHf path)))
+    ∷ (eqb (segment path) (currInf path), AdvanceFailed (InvalidSegmentIndex (segment path) (currInf path)))
+    ∷ (ltb (currInf path) (infos path), AdvanceFailed (InfoOutOfBounds (currInf path)))
+    ∷ (not (isFinal path), AdvanceFailed (HopOutOfBounds (currHf path + 1)))
+    ∷ (not (ends path), AdvanceFailed SegmentEnd)
+    ∷ []
+
+-- ---- where the path stands, or why it cannot go on
+
+abbrev pub located : Validation → Bool → Bool → Located
+located Valid change last = Here change last
+located (Invalid why) change last = Nowhere why

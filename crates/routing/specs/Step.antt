@@ -1,0 +1,65 @@
+-- 01, 'spec/standard.rs': the whole step. Ingress; if it goes on, whether the leaving interface is listed and up; egress.
+-- Assumes nothing.
+use Prim.Native.Nat.{ℕ}
+use mathlib.Core.Bool.{Bool, true, false}
+use mathlib.Core.List.{List, [], _∷_}
+use Rattle.standard_path.specs.Mac.{hopMac}
+use Rattle.standard_path.specs.Fields.{currHf, consDir}
+use Rattle.interface_table.specs.Table.{stateOf, isUp}
+use Rattle.interface_table.specs.declared.Listed.{Listed}
+use Rattle.interface_table.specs.declared.Listed.the-variants.{State, Nothing}
+use Rattle.validator.specs.Questions.{Questions, firstNo}
+use Rattle.validator.specs.Check.{MacFunction, isListed}
+use Rattle.validator.specs.declared.check.StandardValidator.{StandardValidator}
+use Rattle.validator.specs.declared.answer.StandardRoutingError.the-variants.{UnknownEgressInterface, EgressInterfaceDown}
+use Rattle.validator.specs.declared.answer.IngressNextAction.{IngressNextAction}
+use Rattle.validator.specs.declared.answer.IngressNextAction.the-variants.{ContinueEgress, Complete, Refused as Stopped}
+use Rattle.validator.specs.declared.answer.AsRoutingAction.the-variants.{ForwardNextHop}
+use Rattle.validator.specs.declared.answer.StepAnswer.{StepAnswer}
+use Rattle.validator.specs.declared.answer.StepAnswer.the-variants.{Action, Refused}
+use Rattle.routing.specs.Outcome.{Outcome, asks}
+use Rattle.routing.specs.Ingress.{info, ingress}
+use Rattle.routing.specs.Egress.{egress}
+
+-- the hop MAC under a key
+abbrev pub keyMac : List ℕ → MacFunction
+keyMac key = λ segId start units ingress egress. hopMac segId start units ingress egress key
+
+abbrev pub atIngress : ℕ → ℕ → Bool → StandardValidator
+atIngress interface time unchecked = record { ingress = true; interface = interface; time = time; unchecked = unchecked }
+
+abbrev pub atEgress : ℕ → ℕ → Bool → StandardValidator
+atEgress interface time unchecked = record { ingress = false; interface = interface; time = time; unchecked = unchecked }
+
+abbrev pub isUpListed : Listed → Bool
+isUpListed (State state) = isUp state
+isUpListed Nothing = false
+
+-- 15 and 17, with what the table has for the leaving interface
+abbrev pub leavingQuestions : Listed → ℕ → List ℕ → Questions
+leavingQuestions listed out path =
+    (isListed listed, UnknownEgressInterface (currHf path) out (consDir (info path)))
+    ∷ (isUpListed listed, EgressInterfaceDown (currHf path) out)
+    ∷ []
+
+abbrev pub leave : List ℕ → List ℕ → MacFunction → StandardValidator → List ℕ → Outcome StepAnswer
+leave ids states mac at path =
+    asks Refused (firstNo (leavingQuestions (stateOf ids states (at .interface)) (at .interface) path)) path
+    (egress ids states mac at path)
+
+-- the answer of an ingress that does not go on; for one that goes on it is not asked
+unfoldable pub finished : IngressNextAction → StepAnswer
+finished (Complete action) = Action action
+finished (Stopped why) = Refused why
+finished (ContinueEgress out) = Action (ForwardNextHop out)
+
+-- from what ingress answered, on the bytes that it left
+unfoldable pub stepFrom : IngressNextAction → List ℕ → List ℕ → MacFunction → ℕ → Bool → List ℕ → Outcome StepAnswer
+stepFrom (ContinueEgress out) ids states mac time unchecked path = leave ids states mac (atEgress out time unchecked) path
+stepFrom (Complete action) ids states mac time unchecked path = record { answer = finished (Complete action); bytes = path }
+stepFrom (Stopped why) ids states mac time unchecked path = record { answer = finished (Stopped why); bytes = path }
+
+unfoldable pub step : List ℕ → List ℕ → MacFunction → ℕ → ℕ → Bool → List ℕ → Outcome StepAnswer
+step ids states mac interface time unchecked path =
+    let in′ = ingress ids states mac (atIngress interface time unchecked) path in
+    stepFrom (in′ .answer) ids states mac time unchecked (in′ .bytes)

@@ -1,0 +1,116 @@
+// The egress half of the step.
+//
+// Ported from `advance_egress_with_validator` in crates/libs/sciparse/src/proto/dataplane_path/standard/routing.rs and
+// `standard_path_egress` in crates/pocketscion/src/network/scion/routing/spec/standard.rs of Anapaya/scion-sdk at commit
+// 866faf5ba3, and changed: rewritten in Rattle, with contracts; all reads come before the first write.
+// Copyright 2025 Anapaya Systems
+// Copyright 2026 Anapaya Systems
+// Licensed under the Apache License, Version 2.0: see NOTICE.
+use crate::ingress;
+use crate::place;
+use standard_path::moves;
+use standard_path::view;
+use validator::answer::AsRoutingAction;
+use validator::answer::LocalAsRoutingAction;
+use validator::answer::StepAnswer;
+use validator::answer::Validation;
+use validator::check::StandardValidator;
+ghost use mathlib.Core.Path.{_≡_};
+ghost use Rattle.validator.specs.Questions.{firstNo};
+ghost use Rattle.validator.specs.Check.{scheduleMac};
+ghost use Rattle.routing.specs.Egress.{egressQuestions, egressMove, egressAction, decided, egress};
+
+// Questions 19, 10, 11 and 12.
+fn validate_egress(
+    table: &[u8; 1024],
+    round_keys: [[u8; 16]; 11],
+    k1: [u8; 16],
+    at: StandardValidator,
+    path: &[u8],
+) -> Validation
+    ensures { λ r. ⌜ r ≡ firstNo (egressQuestions (scheduleMac (now (table .entry)) «round_keys» k1) at (now (path .entry))) ⌝ }
+{
+    let info = view::curr_info_field(path);
+    at.validate_hop(
+        table,
+        round_keys,
+        k1,
+        view::curr_hop_field_idx(path),
+        view::curr_hop_field(path),
+        info,
+        view::segment_id(info),
+    )
+}
+
+fn egress_action(path: &[u8]) -> StepAnswer
+    ensures { λ r. ⌜ r ≡ egressAction (now (path .entry)) ⌝ }
+{
+    let hop = view::curr_hop_field(path);
+    let info = view::curr_info_field(path);
+    let out = view::egress_interface(hop, info);
+    if view::egress_scmp_alert(hop, info) {
+        if out != 0 {
+            let local = LocalAsRoutingAction::EgressSCMPHandleRequest { interface_id: out };
+            return StepAnswer::Action(AsRoutingAction::Local(local));
+        }
+        return StepAnswer::Action(AsRoutingAction::ForwardNextHop {
+            egress_interface_id: out,
+        });
+    }
+    StepAnswer::Action(AsRoutingAction::ForwardNextHop {
+        egress_interface_id: out,
+    })
+}
+
+fn move_egress(path: &mut [u8])
+    ensures { λ _. ⌜ now (path .exit) ≡ egressMove (now (path .entry)) ⌝ }
+{
+    let hop_index = view::curr_hop_field_idx(path);
+    let cons_dir = view::cons_dir(view::curr_info_field(path));
+    ingress::beta_step(path, cons_dir);
+    moves::clear_egress_alert(path, cons_dir, hop_index);
+    view::set_curr_hop_field(path, hop_index + 1);
+}
+
+// The answer, from the path as it came.
+fn decide_egress(
+    table: &[u8; 1024],
+    round_keys: [[u8; 16]; 11],
+    k1: [u8; 16],
+    at: StandardValidator,
+    path: &[u8],
+) -> StepAnswer
+    ensures { λ r. ⌜ r ≡ decided (firstNo (egressQuestions (scheduleMac (now (table .entry)) «round_keys» k1) at (now (path .entry))))
+        (egressAction (now (path .entry))) ⌝ }
+{
+    match validate_egress(table, round_keys, k1, at, path) {
+        Validation::Valid => egress_action(path),
+        Validation::Invalid(why) => StepAnswer::Refused(why),
+    }
+}
+
+// The egress half, with a schedule made before.
+pub fn egress_with(
+    ids: &[u16],
+    states: &[u8],
+    table: &[u8; 1024],
+    round_keys: [[u8; 16]; 11],
+    k1: [u8; 16],
+    at: StandardValidator,
+    path: &mut [u8],
+) -> StepAnswer
+    ensures { λ r. ⌜ r ≡ egress (now (ids .entry)) (now (states .entry))
+        (scheduleMac (now (table .entry)) «round_keys» k1) at (now (path .entry)) .answer ⌝ }
+    ensures { λ _. ⌜ now (path .exit) ≡ egress (now (ids .entry)) (now (states .entry))
+        (scheduleMac (now (table .entry)) «round_keys» k1) at (now (path .entry)) .bytes ⌝ }
+{
+    if let Validation::Invalid(why) = place::check_before(ids, states, path) {
+        return StepAnswer::Refused(why);
+    }
+    if let Validation::Invalid(why) = place::locate_egress(path) {
+        return StepAnswer::Refused(why);
+    }
+    let answer = decide_egress(table, round_keys, k1, at, path);
+    move_egress(path);
+    answer
+}

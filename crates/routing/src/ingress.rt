@@ -1,0 +1,295 @@
+// The ingress half of the step.
+//
+// Ported from `advance_ingress_with_validator` in crates/libs/sciparse/src/proto/dataplane_path/standard/routing.rs and
+// `standard_path_ingress` in crates/pocketscion/src/network/scion/routing/spec/standard.rs of Anapaya/scion-sdk at commit
+// 866faf5ba3, and changed: rewritten in Rattle, with contracts; all reads come before the first write.
+// Copyright 2025 Anapaya Systems
+// Copyright 2026 Anapaya Systems
+// Licensed under the Apache License, Version 2.0: see NOTICE.
+use crate::place;
+use crate::place::Located;
+use standard_path::mac::mac_beta_step;
+use standard_path::moves;
+use standard_path::view;
+use validator::answer::AsRoutingAction;
+use validator::answer::IngressNextAction;
+use validator::answer::LocalAsRoutingAction;
+use validator::answer::Validation;
+use validator::check::StandardValidator;
+use validator::check::validate_segment_change;
+ghost use mathlib.Core.Path.{_≡_};
+ghost use mathlib.Core.Bool.{not, _&&_};
+ghost use lib.Dec.{eqb};
+ghost use Rattle.validator.specs.Questions.{firstNo};
+ghost use Rattle.validator.specs.Check.{scheduleMac};
+ghost use Rattle.routing.specs.Ingress.{nextHop, nextInfo, steppedSegId, stepped, stepsAtIngress, ingressSegId, nextQuestions, ingressQuestions};
+ghost use Rattle.routing.specs.Ingress.{ingressFields, ingressMove, alertsAtIngress, leaving, ingressAction, decided, ingress};
+
+// The hop field after the current one, and the info field after the current one.
+fn next_hop_field(path: &[u8]) -> &[u8]
+    ensures { λ r. ⌜ now r ≡ nextHop (now (path .entry)) ⌝ }
+{
+    view::hop_field(path, view::curr_hop_field_idx(path) + 1)
+}
+
+fn next_info_field(path: &[u8]) -> &[u8]
+    ensures { λ r. ⌜ now r ≡ nextInfo (now (path .entry)) ⌝ }
+{
+    view::info_field(path, view::curr_info_field_idx(path) + 1)
+}
+
+// The SegID after a beta step of the current hop.
+pub fn stepped_segment_id(path: &[u8]) -> u16
+    ensures { λ r. ⌜ r ≡ steppedSegId (now (path .entry)) ⌝ }
+{
+    mac_beta_step(
+        view::segment_id(view::curr_info_field(path)),
+        view::mac(view::curr_hop_field(path)),
+    )
+}
+
+// A packet from outside takes a beta step against construction.
+fn steps_at_ingress(path: &[u8], interface: u16) -> bool
+    ensures { λ r. ⌜ r ≡ stepsAtIngress (now (path .entry)) interface ⌝ }
+{
+    if interface == 0 {
+        return false;
+    }
+    !view::cons_dir(view::curr_info_field(path))
+}
+
+fn ingress_segment_id(path: &[u8], interface: u16) -> u16
+    ensures { λ r. ⌜ r ≡ ingressSegId (now (path .entry)) interface ⌝ }
+{
+    if steps_at_ingress(path, interface) {
+        return stepped_segment_id(path);
+    }
+    view::segment_id(view::curr_info_field(path))
+}
+
+// Questions 13 to 16, and 9 to 12 for the next hop.
+fn validate_next(
+    ids: &[u16],
+    states: &[u8],
+    table: &[u8; 1024],
+    round_keys: [[u8; 16]; 11],
+    k1: [u8; 16],
+    at: StandardValidator,
+    path: &[u8],
+) -> Validation
+    ensures { λ r. ⌜ r ≡ firstNo (nextQuestions (now (ids .entry)) (now (states .entry))
+        (scheduleMac (now (table .entry)) «round_keys» k1) at (now (path .entry))) ⌝ }
+{
+    let hop_index = view::curr_hop_field_idx(path);
+    let next_hop = next_hop_field(path);
+    let next_info = next_info_field(path);
+    let change = validate_segment_change(
+        ids,
+        states,
+        hop_index,
+        view::curr_hop_field(path),
+        view::curr_info_field(path),
+        next_hop,
+        next_info,
+    );
+    let Validation::Valid = change else {
+        return change;
+    };
+    let segment_id = view::segment_id(next_info);
+    at.validate_hop(
+        table,
+        round_keys,
+        k1,
+        hop_index + 1,
+        next_hop,
+        next_info,
+        segment_id,
+    )
+}
+
+// Questions 9 to 16 at ingress.
+fn validate_ingress(
+    ids: &[u16],
+    states: &[u8],
+    table: &[u8; 1024],
+    round_keys: [[u8; 16]; 11],
+    k1: [u8; 16],
+    at: StandardValidator,
+    path: &[u8],
+    change: bool,
+) -> Validation
+    ensures { λ r. ⌜ r ≡ firstNo (ingressQuestions (now (ids .entry)) (now (states .entry))
+        (scheduleMac (now (table .entry)) «round_keys» k1) at (now (path .entry)) change) ⌝ }
+{
+    let here = at.validate_hop(
+        table,
+        round_keys,
+        k1,
+        view::curr_hop_field_idx(path),
+        view::curr_hop_field(path),
+        view::curr_info_field(path),
+        ingress_segment_id(path, at.interface),
+    );
+    let Validation::Valid = here else {
+        return here;
+    };
+    if change {
+        return validate_next(ids, states, table, round_keys, k1, at, path);
+    }
+    Validation::Valid
+}
+
+fn alerts_at_ingress(path: &[u8], interface: u16) -> bool
+    ensures { λ r. ⌜ r ≡ alertsAtIngress (now (path .entry)) interface ⌝ }
+{
+    let hop = view::curr_hop_field(path);
+    let info = view::curr_info_field(path);
+    if view::ingress_scmp_alert(hop, info) {
+        if interface == 0 {
+            return false;
+        }
+        return view::ingress_interface(hop, info) == interface;
+    }
+    false
+}
+
+fn leaving_interface(path: &[u8], change: bool) -> u16
+    ensures { λ r. ⌜ r ≡ leaving (now (path .entry)) change ⌝ }
+{
+    if change {
+        return view::egress_interface(next_hop_field(path), next_info_field(path));
+    }
+    view::egress_interface(view::curr_hop_field(path), view::curr_info_field(path))
+}
+
+// What is done with the packet, once every check has passed.
+fn ingress_action(path: &[u8], interface: u16, change: bool, last: bool) -> IngressNextAction
+    ensures { λ r. ⌜ r ≡ ingressAction (now (path .entry)) interface change last ⌝ }
+{
+    if alerts_at_ingress(path, interface) {
+        let local = LocalAsRoutingAction::IngressSCMPHandleRequest {
+            interface_id: interface,
+        };
+        return IngressNextAction::Complete(AsRoutingAction::Local(local));
+    }
+    if last {
+        return IngressNextAction::Complete(AsRoutingAction::Local(
+            LocalAsRoutingAction::ForwardLocal,
+        ));
+    }
+    IngressNextAction::ContinueEgress {
+        egress_interface_id: leaving_interface(path, change),
+    }
+}
+
+// The beta step of the current hop, if it takes one.
+pub fn beta_step(path: &mut [u8], taken: bool)
+    ensures { λ _. ⌜ now (path .exit) ≡ stepped (now (path .entry)) taken ⌝ }
+{
+    if taken {
+        let segment = view::curr_info_field_idx(path);
+        let segment_id = stepped_segment_id(path);
+        moves::set_segment_id(path, segment, segment_id);
+    }
+}
+
+fn move_fields(path: &mut [u8], interface: u16)
+    ensures { λ _. ⌜ now (path .exit) ≡ ingressFields (now (path .entry)) interface ⌝ }
+{
+    if interface == 0 {
+        return;
+    }
+    let hop_index = view::curr_hop_field_idx(path);
+    let cons_dir = view::cons_dir(view::curr_info_field(path));
+    beta_step(path, !cons_dir);
+    moves::clear_ingress_alert(path, cons_dir, hop_index);
+}
+
+fn move_ingress(path: &mut [u8], interface: u16, change: bool)
+    ensures { λ _. ⌜ now (path .exit) ≡ ingressMove (now (path .entry)) interface change ⌝ }
+{
+    let hop_index = view::curr_hop_field_idx(path);
+    let segment = view::curr_info_field_idx(path);
+    move_fields(path, interface);
+    if change {
+        view::set_curr_hop_field(path, hop_index + 1);
+        view::set_curr_info_field(path, segment + 1);
+    }
+}
+
+// The answer, from the path as it came.
+fn decide_ingress(
+    ids: &[u16],
+    states: &[u8],
+    table: &[u8; 1024],
+    round_keys: [[u8; 16]; 11],
+    k1: [u8; 16],
+    at: StandardValidator,
+    path: &[u8],
+    change: bool,
+    last: bool,
+) -> IngressNextAction
+    ensures { λ r. ⌜ r ≡ decided (firstNo (ingressQuestions (now (ids .entry)) (now (states .entry))
+        (scheduleMac (now (table .entry)) «round_keys» k1) at (now (path .entry)) change))
+        (ingressAction (now (path .entry)) (at .interface) change last) ⌝ }
+{
+    match validate_ingress(ids, states, table, round_keys, k1, at, path, change) {
+        Validation::Valid => ingress_action(path, at.interface, change, last),
+        Validation::Invalid(why) => IngressNextAction::Refused(why),
+    }
+}
+
+fn ingress_here(
+    ids: &[u16],
+    states: &[u8],
+    table: &[u8; 1024],
+    round_keys: [[u8; 16]; 11],
+    k1: [u8; 16],
+    at: StandardValidator,
+    path: &mut [u8],
+    change: bool,
+    last: bool,
+) -> IngressNextAction
+    ensures { λ r. ⌜ r ≡ decided (firstNo (ingressQuestions (now (ids .entry)) (now (states .entry))
+        (scheduleMac (now (table .entry)) «round_keys» k1) at (now (path .entry)) change))
+        (ingressAction (now (path .entry)) (at .interface) change last) ⌝ }
+    ensures { λ _. ⌜ now (path .exit) ≡ ingressMove (now (path .entry)) (at .interface) change ⌝ }
+{
+    let answer = decide_ingress(ids, states, table, round_keys, k1, at, path, change, last);
+    move_ingress(path, at.interface, change);
+    answer
+}
+
+// The ingress half, with a schedule made before.
+pub fn ingress_with(
+    ids: &[u16],
+    states: &[u8],
+    table: &[u8; 1024],
+    round_keys: [[u8; 16]; 11],
+    k1: [u8; 16],
+    at: StandardValidator,
+    path: &mut [u8],
+) -> IngressNextAction
+    ensures { λ r. ⌜ r ≡ ingress (now (ids .entry)) (now (states .entry))
+        (scheduleMac (now (table .entry)) «round_keys» k1) at (now (path .entry)) .answer ⌝ }
+    ensures { λ _. ⌜ now (path .exit) ≡ ingress (now (ids .entry)) (now (states .entry))
+        (scheduleMac (now (table .entry)) «round_keys» k1) at (now (path .entry)) .bytes ⌝ }
+{
+    if let Validation::Invalid(why) = place::check_before(ids, states, path) {
+        return IngressNextAction::Refused(why);
+    }
+    match place::locate_ingress(path) {
+        Located::Nowhere(why) => IngressNextAction::Refused(why),
+        Located::Here { change, last } => ingress_here(
+            ids,
+            states,
+            table,
+            round_keys,
+            k1,
+            at,
+            path,
+            change,
+            last,
+        ),
+    }
+}

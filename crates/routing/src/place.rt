@@ -1,0 +1,129 @@
+// Questions 1 to 8 and 18: whether the step can start, and where the path stands.
+//
+// Ported from `advance_ingress_with_validator` and `advance_egress_with_validator` in
+// crates/libs/sciparse/src/proto/dataplane_path/standard/routing.rs of Anapaya/scion-sdk at commit 866faf5ba3, and changed:
+// rewritten in Rattle, with contracts; the questions are asked before anything else is done.
+// Copyright 2026 Anapaya Systems
+// Licensed under the Apache License, Version 2.0: see NOTICE.
+use standard_path::view;
+use standard_path::view::HeaderCheck;
+use standard_path::view::SegmentIndex;
+use validator::answer::AdvanceError;
+use validator::answer::StandardRoutingError;
+use validator::answer::Validation;
+ghost use mathlib.Core.Path.{_≡_};
+ghost use Rattle.validator.specs.Questions.{firstNo};
+ghost use Rattle.routing.specs.Place.{before, headerQuestions, ingressPlace, egressPlace, located, changes, isFinal};
+
+// Where the path stands: whether its hop makes a segment change, and whether it is the path's last.
+pub enum Located {
+    Here { change: bool, last: bool },
+    Nowhere(StandardRoutingError),
+}
+
+// Questions 2 to 4.
+fn check_header(path: &[u8]) -> Validation
+    ensures { λ r. ⌜ r ≡ firstNo (headerQuestions (now (path .entry))) ⌝ }
+{
+    match view::check_header(path) {
+        HeaderCheck::Complete => Validation::Valid,
+        HeaderCheck::MetaTooShort => Validation::Invalid(StandardRoutingError::MetaTooShort),
+        HeaderCheck::DataTooShort => Validation::Invalid(StandardRoutingError::DataTooShort),
+        HeaderCheck::TooManyHops => Validation::Invalid(StandardRoutingError::TooManyHops),
+    }
+}
+
+// Questions 1 to 4.
+pub fn check_before(ids: &[u16], states: &[u8], path: &[u8]) -> Validation
+    ensures { λ r. ⌜ r ≡ firstNo (before (now (ids .entry)) (now (states .entry)) (now (path .entry))) ⌝ }
+{
+    if interface_table::is_sound(ids, states) {
+        return check_header(path);
+    }
+    Validation::Invalid(StandardRoutingError::UnsoundTable)
+}
+
+fn refused(why: AdvanceError) -> Validation
+    ensures { λ r. ⌜ r ≡ Validation.Invalid (StandardRoutingError.AdvanceFailed why) ⌝ }
+{
+    Validation::Invalid(StandardRoutingError::AdvanceFailed(why))
+}
+
+fn failed(why: AdvanceError) -> Located
+    ensures { λ r. ⌜ r ≡ Located.Nowhere (StandardRoutingError.AdvanceFailed why) ⌝ }
+{
+    Located::Nowhere(StandardRoutingError::AdvanceFailed(why))
+}
+
+fn is_final(path: &[u8]) -> bool
+    ensures { λ r. ⌜ r ≡ isFinal (now (path .entry)) ⌝ }
+{
+    view::hop_field_count(path) <= view::curr_hop_field_idx(path) + 1
+}
+
+// Questions 5 to 8.
+pub fn locate_ingress(path: &[u8]) -> Located
+    ensures { λ r. ⌜ r ≡ located (firstNo (ingressPlace (now (path .entry)))) (changes (now (path .entry))) (isFinal (now (path .entry))) ⌝ }
+{
+    let hop = view::curr_hop_field_idx(path);
+    let SegmentIndex::At { index, start, end } = view::calculate_segment_index(path, hop) else {
+        return failed(AdvanceError::HopOutOfBounds(hop));
+    };
+    if start & end {
+        return failed(AdvanceError::SingleHopSegment);
+    }
+    let actual = view::curr_info_field_idx(path);
+    if index != actual {
+        return failed(AdvanceError::InvalidSegmentIndex {
+            expected: index,
+            actual,
+        });
+    }
+    let infos = view::info_field_count(path);
+    if infos <= actual {
+        return failed(AdvanceError::InfoOutOfBounds(actual));
+    }
+    let last = is_final(path);
+    if end & !last {
+        if infos <= index + 1 {
+            return failed(AdvanceError::InfoOutOfBounds(index + 1));
+        }
+        return Located::Here { change: true, last };
+    }
+    Located::Here {
+        change: false,
+        last,
+    }
+}
+
+// Questions 5, 7, 8, 5 for the next hop, and 18.
+pub fn locate_egress(path: &[u8]) -> Validation
+    ensures { λ r. ⌜ r ≡ firstNo (egressPlace (now (path .entry))) ⌝ }
+{
+    let hop = view::curr_hop_field_idx(path);
+    let SegmentIndex::At {
+        index,
+        start: _,
+        end,
+    } = view::calculate_segment_index(path, hop)
+    else {
+        return refused(AdvanceError::HopOutOfBounds(hop));
+    };
+    let actual = view::curr_info_field_idx(path);
+    if index != actual {
+        return refused(AdvanceError::InvalidSegmentIndex {
+            expected: index,
+            actual,
+        });
+    }
+    if view::info_field_count(path) <= actual {
+        return refused(AdvanceError::InfoOutOfBounds(actual));
+    }
+    if is_final(path) {
+        return refused(AdvanceError::HopOutOfBounds(hop + 1));
+    }
+    if end {
+        return refused(AdvanceError::SegmentEnd);
+    }
+    Validation::Valid
+}

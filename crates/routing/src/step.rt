@@ -1,0 +1,211 @@
+// The whole step, and each half by itself.
+//
+// Ported from crates/pocketscion/src/network/scion/routing/spec/standard.rs of Anapaya/scion-sdk at commit 866faf5ba3, and changed:
+// rewritten in Rattle, with contracts; the interfaces are a lent table in place of a closure; one key schedule serves all MACs of a call.
+// Copyright 2025 Anapaya Systems
+// Licensed under the Apache License, Version 2.0: see NOTICE.
+use crate::egress;
+use crate::ingress;
+use aes_cmac::aes;
+use aes_cmac::cmac;
+use interface_table::Listed;
+use standard_path::view;
+use validator::answer::AsRoutingAction;
+use validator::answer::IngressNextAction;
+use validator::answer::StandardRoutingError;
+use validator::answer::StepAnswer;
+use validator::answer::Validation;
+use validator::check::StandardValidator;
+ghost use mathlib.Core.Path.{_≡_};
+ghost use Rattle.validator.specs.Questions.{firstNo};
+ghost use Rattle.validator.specs.Check.{scheduleMac};
+ghost use Rattle.interface_table.specs.Table.{stateOf};
+ghost use Rattle.routing.specs.Ingress.{ingress};
+ghost use Rattle.routing.specs.Egress.{egress};
+ghost use Rattle.routing.specs.Step.{keyMac, atIngress, atEgress, leavingQuestions, finished, leave, step};
+
+// ---- the halves
+
+pub fn standard_path_ingress(
+    ids: &[u16],
+    states: &[u8],
+    path: &mut [u8],
+    ingress_interface_id: u16,
+    time: u32,
+    forwarding_key: &[u8; 16],
+    ignore_macs: bool,
+) -> IngressNextAction
+    ensures { λ r. ⌜ r ≡ ingress (now (ids .entry)) (now (states .entry)) (keyMac (now («forwarding_key» .entry)))
+        (atIngress «ingress_interface_id» time «ignore_macs») (now (path .entry)) .answer ⌝ }
+    ensures { λ _. ⌜ now (path .exit) ≡ ingress (now (ids .entry)) (now (states .entry)) (keyMac (now («forwarding_key» .entry)))
+        (atIngress «ingress_interface_id» time «ignore_macs») (now (path .entry)) .bytes ⌝ }
+{
+    let table = aes::round_table();
+    let round_keys = aes::expand_key(*forwarding_key);
+    let k1 = cmac::subkey_with(&table, round_keys);
+    let at = StandardValidator {
+        ingress: true,
+        interface: ingress_interface_id,
+        time,
+        unchecked: ignore_macs,
+    };
+    ingress::ingress_with(ids, states, &table, round_keys, k1, at, path)
+}
+
+pub fn standard_path_egress(
+    ids: &[u16],
+    states: &[u8],
+    path: &mut [u8],
+    egress_if_id: u16,
+    time: u32,
+    forwarding_key: &[u8; 16],
+    ignore_macs: bool,
+) -> StepAnswer
+    ensures { λ r. ⌜ r ≡ egress (now (ids .entry)) (now (states .entry)) (keyMac (now («forwarding_key» .entry)))
+        (atEgress «egress_if_id» time «ignore_macs») (now (path .entry)) .answer ⌝ }
+    ensures { λ _. ⌜ now (path .exit) ≡ egress (now (ids .entry)) (now (states .entry)) (keyMac (now («forwarding_key» .entry)))
+        (atEgress «egress_if_id» time «ignore_macs») (now (path .entry)) .bytes ⌝ }
+{
+    let table = aes::round_table();
+    let round_keys = aes::expand_key(*forwarding_key);
+    let k1 = cmac::subkey_with(&table, round_keys);
+    let at = StandardValidator {
+        ingress: false,
+        interface: egress_if_id,
+        time,
+        unchecked: ignore_macs,
+    };
+    egress::egress_with(ids, states, &table, round_keys, k1, at, path)
+}
+
+// ---- between them
+
+// Questions 15 and 17 of the interface that the packet leaves by.
+fn validate_leaving(ids: &[u16], states: &[u8], out: u16, path: &[u8]) -> Validation
+    ensures { λ r. ⌜ r ≡ firstNo (leavingQuestions (stateOf (now (ids .entry)) (now (states .entry)) out) out (now (path .entry))) ⌝ }
+{
+    let hop_index = view::curr_hop_field_idx(path);
+    let Listed::State(state) = interface_table::lookup(ids, states, out) else {
+        let cons_dir = view::cons_dir(view::curr_info_field(path));
+        return Validation::Invalid(StandardRoutingError::UnknownEgressInterface {
+            hop_index,
+            if_id: out,
+            cons_dir,
+        });
+    };
+    if interface_table::is_up(state) {
+        return Validation::Valid;
+    }
+    Validation::Invalid(StandardRoutingError::EgressInterfaceDown {
+        hop_index,
+        if_id: out,
+    })
+}
+
+fn leave_with(
+    ids: &[u16],
+    states: &[u8],
+    table: &[u8; 1024],
+    round_keys: [[u8; 16]; 11],
+    k1: [u8; 16],
+    at: StandardValidator,
+    path: &mut [u8],
+) -> StepAnswer
+    ensures { λ r. ⌜ r ≡ leave (now (ids .entry)) (now (states .entry))
+        (scheduleMac (now (table .entry)) «round_keys» k1) at (now (path .entry)) .answer ⌝ }
+    ensures { λ _. ⌜ now (path .exit) ≡ leave (now (ids .entry)) (now (states .entry))
+        (scheduleMac (now (table .entry)) «round_keys» k1) at (now (path .entry)) .bytes ⌝ }
+{
+    if let Validation::Invalid(why) = validate_leaving(ids, states, at.interface, path) {
+        return StepAnswer::Refused(why);
+    }
+    egress::egress_with(ids, states, table, round_keys, k1, at, path)
+}
+
+// The answer of an ingress that does not go on.
+fn finish(next_action: IngressNextAction) -> StepAnswer
+    ensures { λ r. ⌜ r ≡ finished «next_action» ⌝ }
+{
+    match next_action {
+        IngressNextAction::Complete(action) => StepAnswer::Action(action),
+        IngressNextAction::Refused(why) => StepAnswer::Refused(why),
+        IngressNextAction::ContinueEgress {
+            egress_interface_id,
+        } => {
+            StepAnswer::Action(AsRoutingAction::ForwardNextHop {
+                egress_interface_id,
+            })
+        }
+    }
+}
+
+// ---- the whole step
+
+// With a schedule made before.
+pub fn handle_with(
+    ids: &[u16],
+    states: &[u8],
+    table: &[u8; 1024],
+    round_keys: [[u8; 16]; 11],
+    k1: [u8; 16],
+    path: &mut [u8],
+    ingress_interface_id: u16,
+    time: u32,
+    ignore_macs: bool,
+) -> StepAnswer
+    ensures { λ r. ⌜ r ≡ step (now (ids .entry)) (now (states .entry)) (scheduleMac (now (table .entry)) «round_keys» k1)
+        «ingress_interface_id» time «ignore_macs» (now (path .entry)) .answer ⌝ }
+    ensures { λ _. ⌜ now (path .exit) ≡ step (now (ids .entry)) (now (states .entry)) (scheduleMac (now (table .entry)) «round_keys» k1)
+        «ingress_interface_id» time «ignore_macs» (now (path .entry)) .bytes ⌝ }
+{
+    let at = StandardValidator {
+        ingress: true,
+        interface: ingress_interface_id,
+        time,
+        unchecked: ignore_macs,
+    };
+    let next_action = ingress::ingress_with(ids, states, table, round_keys, k1, at, path);
+    let IngressNextAction::ContinueEgress {
+        egress_interface_id,
+    } = next_action
+    else {
+        return finish(next_action);
+    };
+    let leaving = StandardValidator {
+        ingress: false,
+        interface: egress_interface_id,
+        time,
+        unchecked: ignore_macs,
+    };
+    leave_with(ids, states, table, round_keys, k1, leaving, path)
+}
+
+pub fn handle_standard_path(
+    ids: &[u16],
+    states: &[u8],
+    path: &mut [u8],
+    ingress_interface_id: u16,
+    time: u32,
+    forwarding_key: &[u8; 16],
+    ignore_macs: bool,
+) -> StepAnswer
+    ensures { λ r. ⌜ r ≡ step (now (ids .entry)) (now (states .entry)) (keyMac (now («forwarding_key» .entry)))
+        «ingress_interface_id» time «ignore_macs» (now (path .entry)) .answer ⌝ }
+    ensures { λ _. ⌜ now (path .exit) ≡ step (now (ids .entry)) (now (states .entry)) (keyMac (now («forwarding_key» .entry)))
+        «ingress_interface_id» time «ignore_macs» (now (path .entry)) .bytes ⌝ }
+{
+    let table = aes::round_table();
+    let round_keys = aes::expand_key(*forwarding_key);
+    let k1 = cmac::subkey_with(&table, round_keys);
+    handle_with(
+        ids,
+        states,
+        &table,
+        round_keys,
+        k1,
+        path,
+        ingress_interface_id,
+        time,
+        ignore_macs,
+    )
+}
