@@ -1,3 +1,4 @@
 pub mod Answer
 pub mod Questions
 pub mod Check
+pub mod Scmp
