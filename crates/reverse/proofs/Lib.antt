@@ -1,0 +1,7 @@
+pub mod FieldOrder
+pub mod FieldSwap
+pub mod UsedSegments
+pub mod Reversible
+pub mod ReversedLengths
+pub mod ReversedInfos
+pub mod Reversed

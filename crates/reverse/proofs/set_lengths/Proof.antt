@@ -1,0 +1,25 @@
+use borrow.Author.Needs.{needs}
+use Rattle.reverse.specs.Reverse.{setLengths}
+use Rattle.reverse.proofs.set_lengths.Statement.{statement}
+use Rattle.reverse.proofs.set_lengths.Tie as tie
+
+returns : tie.Need-returns
+unfolding setLengths
+returns c = cc
+
+pub set-lengths-spec : {M : Type 1} → statement M
+set-lengths-spec =
+    tie.close
+    (tie.spec
+    (λ c κs. search needs)
+    (λ c. search needs)
+    (λ c. search needs)
+    (λ c κs. search needs)
+    (λ c. search needs)
+    (λ c. search needs)
+    (λ c κs. search needs)
+    (λ c. search needs)
+    (λ c. search needs)
+    (λ c κs. search needs)
+    (λ c. search needs)
+    returns)
