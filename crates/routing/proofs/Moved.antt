@@ -1,0 +1,135 @@
+-- What the step keeps, whatever it answers: the length and the three lengths, so that a yes to 2, 3 and 4 stays one; and each byte past
+-- the header.
+-- Assumes nothing.
+use mathlib.Core.Path.{_≡_, refl, sym, ap, subst, _∙_}
+use mathlib.Core.Bool.{Bool, true, false, cond}
+use mathlib.Core.List.{List, _∷_}
+use Prim.Native.Nat.{ℕ, _<_}
+use borrow.Author.Tests.{ltb-true}
+use lib.Dec.{eqb}
+use lib.ListN.{drop}
+use Rattle.standard_path.specs.Fields.{currInf, currHf, consDir}
+use Rattle.standard_path.specs.Header.{infos, hops, headerSize}
+use Rattle.standard_path.specs.Moves.{clearIngressAlert}
+use Rattle.standard_path.proofs.Kept.{Kept, kept-self, kept-trans, hops-kept, header-size-kept, header-check-kept}
+use Rattle.standard_path.proofs.Kept.{seg-id-kept, seg-id-past, alert-kept, alert-past, set-hf-kept, set-hf-past, set-inf-kept, set-inf-past}
+use Rattle.validator.specs.Questions.{Questions, firstNo}
+use Rattle.validator.specs.Check.{MacFunction}
+use Rattle.validator.specs.declared.check.StandardValidator.{StandardValidator}
+use Rattle.validator.specs.declared.answer.StandardRoutingError.{StandardRoutingError}
+use Rattle.validator.specs.declared.answer.Validation.{Validation}
+use Rattle.validator.specs.declared.answer.Validation.the-variants.{Valid, Invalid}
+use Rattle.validator.specs.declared.answer.IngressNextAction.{IngressNextAction}
+use Rattle.validator.specs.declared.answer.IngressNextAction.the-variants.{ContinueEgress, Complete, Refused}
+use Rattle.validator.proofs.Asked.{asked-first}
+use Rattle.routing.specs.Outcome.{Outcome, asks}
+use Rattle.routing.specs.Place.{before, headerQuestions, ingressPlace, egressPlace, changes}
+use Rattle.routing.specs.Ingress.{info, stepped, stepsAtIngress, ingressFields, ingressMove, ingress}
+use Rattle.routing.specs.Egress.{egressMove, egress}
+use Rattle.routing.specs.Step.{atIngress, atEgress, leavingQuestions, leave, stepFrom, step}
+use Rattle.interface_table.specs.Table.{stateOf}
+use Rattle.routing.proofs.Places.{asValidation, header-law}
+
+pub record Holds (path after : List ℕ) : Type 0 where
+  pub kept : Kept path after
+  pub past : drop (headerSize path) after ≡ drop (headerSize path) path
+
+pub holds-self : (path : List ℕ) → Holds path path
+holds-self path = record { kept = kept-self path; past = refl }
+
+pub holds-trans : {path mid after : List ℕ} → Holds path mid → Holds mid after → Holds path after
+holds-trans {path} {mid} {after} p q = record {
+  kept = kept-trans (p .kept) (q .kept);
+  past = subst (λ n. drop n after ≡ drop n mid) (header-size-kept (p .kept)) (q .past) ∙ p .past;
+}
+
+-- 2, 3 and 4 are answered alike
+pub asked-alike : {path after : List ℕ} → Holds path after → firstNo (headerQuestions after) ≡ firstNo (headerQuestions path)
+asked-alike {path} {after} k = header-law after ∙ ap asValidation (header-check-kept (k .kept)) ∙ sym (header-law path)
+
+-- ---- the moves, where CurrINF and CurrHF are in the header
+
+module _ (path : List ℕ) (inside : currInf path < infos path) (among : currHf path < hops path) where
+  stepped-holds : (taken : Bool) → Holds path (stepped path taken)
+  unfolding stepped
+  stepped-holds true = record { kept = seg-id-kept path (currInf path) _; past = seg-id-past path (currInf path) _ inside }
+  stepped-holds false = holds-self path
+
+  cleared-holds : (taken c : Bool) → Holds path (clearIngressAlert (stepped path taken) c (currHf path))
+  cleared-holds taken c =
+      let s = stepped-holds taken in
+      let h : currHf path < hops (stepped path taken) = rw (hops-kept (s .kept)) among in
+      holds-trans s (record { kept = alert-kept _ c _; past = alert-past _ c _ h })
+
+  fields-hold : (interface : ℕ) → Holds path (ingressFields path interface)
+  fields-hold interface = go (eqb interface 0)
+    where
+      go : (local : Bool) → Holds path
+          (cond local path (clearIngressAlert (stepped path (stepsAtIngress path interface)) (consDir (info path)) (currHf path)))
+      go true = holds-self path
+      go false = cleared-holds _ _
+
+  pub ingress-move-holds : (interface : ℕ) (change : Bool) → Holds path (ingressMove path interface change)
+  unfolding ingressMove
+  ingress-move-holds interface true =
+      holds-trans (fields-hold interface)
+      (holds-trans
+      (record { kept = set-hf-kept _ _; past = set-hf-past _ _ })
+      (record { kept = set-inf-kept _ _; past = set-inf-past _ _ }))
+  ingress-move-holds interface false = fields-hold interface
+
+  pub egress-move-holds : Holds path (egressMove path)
+  unfolding egressMove
+  egress-move-holds = holds-trans (cleared-holds _ _) (record { kept = set-hf-kept _ _; past = set-hf-past _ _ })
+
+-- ---- the halves, and the whole
+
+first-of : (asked : Bool) (why : StandardRoutingError) (more : Questions) → firstNo ((asked, why) ∷ more) ≡ Valid → asked ≡ true
+first-of asked why more e = asked-first asked why more e .0
+
+rest-of : (asked : Bool) (why : StandardRoutingError) (more : Questions) → firstNo ((asked, why) ∷ more) ≡ Valid → firstNo more ≡ Valid
+rest-of asked why more e = asked-first asked why more e .1
+
+-- two lists of questions, where a no leaves the bytes
+asked-holds : {A : Type 0} (refuse : StandardRoutingError → A) (first place : Validation) (path : List ℕ) (moved : Outcome A)
+    → (place ≡ Valid → Holds path (moved .bytes)) → Holds path (asks refuse first path (asks refuse place path moved) .bytes)
+asked-holds refuse (Invalid why) place path moved h = holds-self path
+asked-holds refuse Valid (Invalid why) path moved h = holds-self path
+asked-holds refuse Valid Valid path moved h = h refl
+
+module _ (ids states : List ℕ) (mac : MacFunction) where
+  pub ingress-holds : (at : StandardValidator) (path : List ℕ) → Holds path (ingress ids states mac at path .bytes)
+  unfolding ingress
+  ingress-holds at path =
+      asked-holds Refused (firstNo (before ids states path)) (firstNo (ingressPlace path)) path _
+      (λ e.
+      ingress-move-holds path
+      (ltb-true _ _ (first-of _ _ _ (rest-of _ _ _ (rest-of _ _ _ (rest-of _ _ _ e)))))
+      (ltb-true _ _ (first-of _ _ _ e))
+      (at .interface)
+      (changes path))
+
+  pub egress-holds : (at : StandardValidator) (path : List ℕ) → Holds path (egress ids states mac at path .bytes)
+  unfolding egress
+  egress-holds at path =
+      asked-holds Stopped (firstNo (before ids states path)) (firstNo (egressPlace path)) path _
+      (λ e.
+      egress-move-holds path (ltb-true _ _ (first-of _ _ _ (rest-of _ _ _ (rest-of _ _ _ e)))) (ltb-true _ _ (first-of _ _ _ e)))
+
+  leave-holds : (at : StandardValidator) (path : List ℕ) → Holds path (leave ids states mac at path .bytes)
+  leave-holds at path = go (firstNo (leavingQuestions (stateOf ids states (at .interface)) (at .interface) path))
+    where
+      go : (first : Validation) → Holds path (asks Stopped first path (egress ids states mac at path) .bytes)
+      go (Invalid why) = holds-self path
+      go Valid = egress-holds at path
+
+  pub step-holds : (interface time : ℕ) (unchecked : Bool) (path : List ℕ)
+      → Holds path (step ids states mac interface time unchecked path .bytes)
+  unfolding step stepFrom
+  step-holds interface time unchecked path = go _ _ (ingress-holds (atIngress interface time unchecked) path)
+    where
+      go : (answer : IngressNextAction) (bytes : List ℕ) → Holds path bytes
+          → Holds path (stepFrom answer ids states mac time unchecked bytes .bytes)
+      go (ContinueEgress out) bytes h = holds-trans h (leave-holds (atEgress out time unchecked) bytes)
+      go (Complete action) bytes h = h
+      go (Refused why) bytes h = h
