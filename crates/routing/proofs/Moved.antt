@@ -28,6 +28,7 @@ use Rattle.routing.specs.Ingress.{info, stepped, stepsAtIngress, ingress
 use Rattle.routing.specs.Egress.{egressMove, egress}
 use Rattle.routing.specs.Step.{atIngress, atEgress, leavingQuestions, leave, stepFrom, step}
 use Rattle.interface_table.specs.Table.{stateOf}
+use Rattle.validator.specs.declared.answer.StepAnswer.the-variants.{Refused as Stopped}
 use Rattle.routing.proofs.Places.{asValidation, header-law}
 
 pub record Holds (path after : List ℕ) : Type 0 where
@@ -126,7 +127,9 @@ module _ (ids states : List ℕ) (mac : MacFunction) where
   pub step-holds : (interface time : ℕ) (unchecked : Bool) (path : List ℕ)
       → Holds path (step ids states mac interface time unchecked path .bytes)
   unfolding step stepFrom
-  step-holds interface time unchecked path = go _ _ (ingress-holds (atIngress interface time unchecked) path)
+  step-holds interface time unchecked path =
+      let at = atIngress interface time unchecked in
+      go (ingress ids states mac at path .answer) _ (ingress-holds at path)
     where
       go : (answer : IngressNextAction) (bytes : List ℕ) → Holds path bytes
           → Holds path (stepFrom answer ids states mac time unchecked bytes .bytes)
