@@ -22,7 +22,8 @@ ghost use mathlib.Core.Bool.{not, _&&_};
 ghost use lib.Dec.{eqb};
 ghost use Rattle.validator.specs.Questions.{firstNo};
 ghost use Rattle.validator.specs.Check.{scheduleMac};
-ghost use Rattle.routing.specs.Ingress.{nextHop, nextInfo, steppedSegId, stepped, stepsAtIngress, ingressSegId, nextQuestions, ingressQuestions};
+ghost use Rattle.routing.specs.Ingress.{nextHop, nextInfo, steppedSegId, stepped, stepsAtIngress, ingressSegId};
+ghost use Rattle.routing.specs.Ingress.{nextQuestions, ingressQuestions};
 ghost use Rattle.routing.specs.Ingress.{ingressFields, ingressMove, alertsAtIngress, leaving, ingressAction, decided, ingress};
 
 // The hop field after the current one, and the info field after the current one.

@@ -63,7 +63,8 @@ fn is_final(path: &[u8]) -> bool
 
 // Questions 5 to 8.
 pub fn locate_ingress(path: &[u8]) -> Located
-    ensures { λ r. ⌜ r ≡ located (firstNo (ingressPlace (now (path .entry)))) (changes (now (path .entry))) (isFinal (now (path .entry))) ⌝ }
+    ensures { λ r. ⌜ r ≡ located (firstNo (ingressPlace (now (path .entry))))
+        (changes (now (path .entry))) (isFinal (now (path .entry))) ⌝ }
 {
     let hop = view::curr_hop_field_idx(path);
     let SegmentIndex::At { index, start, end } = view::calculate_segment_index(path, hop) else {
