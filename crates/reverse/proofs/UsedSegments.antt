@@ -1,13 +1,15 @@
 -- The number of used segments, from the lengths.
 -- Assumes nothing.
-use mathlib.Core.Path.{_≡_}
+use mathlib.Core.Path.{_≡_, refl}
 use mathlib.Core.Bool.{Bool, true, false, cond}
-use mathlib.Core.List.{List}
+use mathlib.Core.List.{List, [], _∷_}
 use Prim.Native.Nat.{ℕ, _≤_}
 use native.Mathlib.Omega.{arith}
 use lib.Dec.{eqb}
+use lib.ListN.{length}
 use borrow.Author.Tests.{eq-eqb, ne-eqb}
 use Rattle.standard_path.specs.Fields.{seg0Len, seg1Len, seg2Len}
+use Rattle.standard_path.specs.Segments.{PathSegment, segments, segmentCount}
 use Rattle.reverse.specs.Reverse.{usedSegments}
 
 module _ (path : List ℕ) where
@@ -36,3 +38,16 @@ module _ (path : List ℕ) where
       go false true c = omega arith
       go false false true = omega arith
       go false false false = omega arith
+
+  -- they are the segments that a walk finds
+  pub used-walked : usedSegments path ≡ segmentCount path
+  unfolding usedSegments segmentCount segments
+  used-walked = go (eqb (seg0Len path) 0) (eqb (seg1Len path) 0) (eqb (seg2Len path) 0) _ _ _
+    where
+      go : (none one two : Bool) (first second third : PathSegment)
+          → cond none 0 (cond one 1 (cond two 2 3))
+          ≡ length (cond none [] (first ∷ cond one [] (second ∷ cond two [] (third ∷ []))))
+      go true one two first second third = refl
+      go false true two first second third = refl
+      go false false true first second third = refl
+      go false false false first second third = refl
