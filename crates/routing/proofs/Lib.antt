@@ -1,3 +1,5 @@
 pub mod Places
 pub mod Steps
 pub mod Moved
+pub mod Touched
+pub mod Inside

@@ -3,7 +3,7 @@
 -- Assumes nothing.
 use mathlib.Core.Path.{_≡_, refl, sym, ap, subst, _∙_}
 use mathlib.Core.Bool.{Bool, true, false, cond}
-use mathlib.Core.List.{List, _∷_}
+use mathlib.Core.List.{List}
 use Prim.Native.Nat.{ℕ, _<_}
 use borrow.Author.Tests.{ltb-true}
 use lib.Dec.{eqb}
@@ -13,7 +13,7 @@ use Rattle.standard_path.specs.Header.{infos, hops, headerSize}
 use Rattle.standard_path.specs.Moves.{clearIngressAlert}
 use Rattle.standard_path.proofs.Kept.{Kept, kept-self, kept-trans, hops-kept, header-size-kept, header-check-kept}
 use Rattle.standard_path.proofs.Kept.{seg-id-kept, seg-id-past, alert-kept, alert-past, set-hf-kept, set-hf-past, set-inf-kept, set-inf-past}
-use Rattle.validator.specs.Questions.{Questions, firstNo}
+use Rattle.validator.specs.Questions.{firstNo}
 use Rattle.validator.specs.Check.{MacFunction}
 use Rattle.validator.specs.declared.check.StandardValidator.{StandardValidator}
 use Rattle.validator.specs.declared.answer.StandardRoutingError.{StandardRoutingError}
@@ -21,7 +21,7 @@ use Rattle.validator.specs.declared.answer.Validation.{Validation}
 use Rattle.validator.specs.declared.answer.Validation.the-variants.{Valid, Invalid}
 use Rattle.validator.specs.declared.answer.IngressNextAction.{IngressNextAction}
 use Rattle.validator.specs.declared.answer.IngressNextAction.the-variants.{ContinueEgress, Complete, Refused}
-use Rattle.validator.proofs.Asked.{asked-first}
+use Rattle.validator.proofs.Asked.{first-yes, rest-yes}
 use Rattle.routing.specs.Outcome.{Outcome, asks}
 use Rattle.routing.specs.Place.{before, headerQuestions, ingressPlace, egressPlace, changes}
 use Rattle.routing.specs.Ingress.{info, stepped, stepsAtIngress, ingressFields, ingressMove, ingress}
@@ -85,12 +85,6 @@ module _ (path : List ℕ) (inside : currInf path < infos path) (among : currHf 
 
 -- ---- the halves, and the whole
 
-first-of : (asked : Bool) (why : StandardRoutingError) (more : Questions) → firstNo ((asked, why) ∷ more) ≡ Valid → asked ≡ true
-first-of asked why more e = asked-first asked why more e .0
-
-rest-of : (asked : Bool) (why : StandardRoutingError) (more : Questions) → firstNo ((asked, why) ∷ more) ≡ Valid → firstNo more ≡ Valid
-rest-of asked why more e = asked-first asked why more e .1
-
 -- two lists of questions, where a no leaves the bytes
 asked-holds : {A : Type 0} (refuse : StandardRoutingError → A) (first place : Validation) (path : List ℕ) (moved : Outcome A)
     → (place ≡ Valid → Holds path (moved .bytes)) → Holds path (asks refuse first path (asks refuse place path moved) .bytes)
@@ -105,8 +99,8 @@ module _ (ids states : List ℕ) (mac : MacFunction) where
       asked-holds Refused (firstNo (before ids states path)) (firstNo (ingressPlace path)) path _
       (λ e.
       ingress-move-holds path
-      (ltb-true _ _ (first-of _ _ _ (rest-of _ _ _ (rest-of _ _ _ (rest-of _ _ _ e)))))
-      (ltb-true _ _ (first-of _ _ _ e))
+      (ltb-true _ _ (first-yes _ _ _ (rest-yes _ _ _ (rest-yes _ _ _ (rest-yes _ _ _ e)))))
+      (ltb-true _ _ (first-yes _ _ _ e))
       (at .interface)
       (changes path))
 
@@ -115,7 +109,7 @@ module _ (ids states : List ℕ) (mac : MacFunction) where
   egress-holds at path =
       asked-holds Stopped (firstNo (before ids states path)) (firstNo (egressPlace path)) path _
       (λ e.
-      egress-move-holds path (ltb-true _ _ (first-of _ _ _ (rest-of _ _ _ (rest-of _ _ _ e)))) (ltb-true _ _ (first-of _ _ _ e)))
+      egress-move-holds path (ltb-true _ _ (first-yes _ _ _ (rest-yes _ _ _ (rest-yes _ _ _ e)))) (ltb-true _ _ (first-yes _ _ _ e)))
 
   leave-holds : (at : StandardValidator) (path : List ℕ) → Holds path (leave ids states mac at path .bytes)
   leave-holds at path = go (firstNo (leavingQuestions (stateOf ids states (at .interface)) (at .interface) path))

@@ -178,9 +178,9 @@ module _ (path : List ℕ) (i value : ℕ) where
       set-info half (infoOffset i + 3) (value % 256) j (apart 3 (omega arith))
       ∙ set-info path (infoOffset i + 2) (value / 256) j (apart 2 (omega arith))
 
-  pub seg-id-after : value < 65536 → infoOffset i + 8 ≤ length path → segId (infoField (setSegId path i value) i) ≡ value
+  pub seg-id-after : infoOffset i + 8 ≤ length path → segId (infoField (setSegId path i value) i) ≡ value
   unfolding segId setSegId
-  seg-id-after v w =
+  seg-id-after w =
       let after = setSegId path i value in
       let high : getD (infoField after i) 2 0 ≡ value / 256 =
       info-byte after i 2 (omega arith)
