@@ -239,7 +239,7 @@ module _ (ids states : List ℕ) (mac : MacFunction) (interface time : ℕ) (unc
   unfolding ingress
   went-on-bytes = rw (w .asked, w .placed)
 
-  egress-after : egress ids states mac (atEgress out time unchecked) after
+  pub egress-after : egress ids states mac (atEgress out time unchecked) after
       ≡ asks Refused (firstNo (insideQuestions after)) after (record { answer = egressAction after; bytes = egressMove after })
   unfolding egress
   egress-after =

@@ -3,3 +3,4 @@ pub mod Steps
 pub mod Moved
 pub mod Touched
 pub mod Inside
+pub mod Whole

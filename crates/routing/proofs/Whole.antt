@@ -1,0 +1,82 @@
+-- The whole step, question by question: in place of two halves one outcome, with the bytes that a no leaves at each place.
+-- Assumes nothing.
+use mathlib.Core.Path.{_≡_, refl}
+use mathlib.Core.Bool.{Bool, true, false, cond}
+use mathlib.Core.List.{List}
+use Prim.Native.Nat.{ℕ}
+use Rattle.interface_table.specs.Table.{stateOf}
+use Rattle.validator.specs.Questions.{Questions, firstNo}
+use Rattle.validator.specs.Check.{MacFunction}
+use Rattle.validator.specs.declared.answer.Validation.{Validation}
+use Rattle.validator.specs.declared.answer.Validation.the-variants.{Valid, Invalid}
+use Rattle.validator.specs.declared.answer.LocalAsRoutingAction.the-variants.{IngressSCMPHandleRequest, ForwardLocal}
+use Rattle.validator.specs.declared.answer.AsRoutingAction.the-variants.{Local}
+use Rattle.validator.specs.declared.answer.IngressNextAction.{IngressNextAction}
+use Rattle.validator.specs.declared.answer.IngressNextAction.the-variants.{ContinueEgress, Complete, Refused as Stopped}
+use Rattle.validator.specs.declared.answer.StepAnswer.{StepAnswer}
+use Rattle.validator.specs.declared.answer.StepAnswer.the-variants.{Action, Refused}
+use Rattle.routing.specs.Outcome.{Outcome, asks}
+use Rattle.routing.specs.Place.{before, isFinal, changes, ingressPlace}
+use Rattle.routing.specs.Ingress.{ingressQuestions, ingressMove, alertsAtIngress, leaving, ingressAction, decided, ingress}
+use Rattle.routing.specs.Egress.{egressAction, egressMove}
+use Rattle.routing.specs.Step.{atIngress, atEgress, leavingQuestions, finished, stepFrom, step}
+use Rattle.routing.proofs.Inside.{WentOn, insideQuestions, egress-after}
+
+module _ (ids states : List ℕ) (mac : MacFunction) (interface time : ℕ) (unchecked : Bool) (path : List ℕ) where
+  -- the bytes after ingress, and the interface to leave by
+  abbrev pub entered : List ℕ
+  entered = ingressMove path interface (changes path)
+
+  abbrev pub way : ℕ
+  way = leaving path (changes path)
+
+  abbrev pub checks : Questions
+  checks = ingressQuestions ids states mac (atIngress interface time unchecked) path (changes path)
+
+  abbrev pub leavingChecks : Questions
+  leavingChecks = leavingQuestions (stateOf ids states way) way entered
+
+  -- egress, once ingress went on
+  abbrev pub wayOut : Outcome StepAnswer
+  wayOut =
+      asks Refused (firstNo leavingChecks) entered
+      (asks Refused (firstNo (insideQuestions entered)) entered
+      (record { answer = egressAction entered; bytes = egressMove entered }))
+
+  -- with every check passed
+  abbrev pub acted : Bool → Bool → Outcome StepAnswer
+  acted alert final =
+      cond alert (record { answer = Action (Local (IngressSCMPHandleRequest interface)); bytes = entered })
+      (cond final (record { answer = Action (Local ForwardLocal); bytes = entered }) wayOut)
+
+  pub step-asks : step ids states mac interface time unchecked path
+      ≡ asks Refused (firstNo (before ids states path)) path
+      (asks Refused (firstNo (ingressPlace path)) path
+      (asks Refused (firstNo checks) entered (acted (alertsAtIngress path interface) (isFinal path))))
+  unfolding step stepFrom finished ingress ingressAction
+  step-asks =
+      go (firstNo (before ids states path)) refl (firstNo (ingressPlace path)) refl (firstNo checks) refl
+      (alertsAtIngress path interface) refl (isFinal path) refl
+    where
+      go : (first : Validation) → firstNo (before ids states path) ≡ first → (place : Validation) → firstNo (ingressPlace path) ≡ place
+          → (passed : Validation) → firstNo checks ≡ passed → (alert : Bool) → alertsAtIngress path interface ≡ alert
+          → (final : Bool) → isFinal path ≡ final
+          → let in′ : Outcome IngressNextAction =
+          asks Stopped first path
+          (asks Stopped place path
+          (record {
+            answer = decided passed
+                (cond alert (Complete (Local (IngressSCMPHandleRequest interface)))
+                (cond final (Complete (Local ForwardLocal)) (ContinueEgress way)));
+            bytes = entered;
+          })) in
+          stepFrom (in′ .answer) ids states mac time unchecked (in′ .bytes)
+          ≡ asks Refused first path (asks Refused place path (asks Refused passed entered (acted alert final)))
+      go (Invalid why) a place b passed c alert d final e = refl
+      go Valid a (Invalid why) b passed c alert d final e = refl
+      go Valid a Valid b (Invalid why) c alert d final e = refl
+      go Valid a Valid b Valid c true d final e = refl
+      go Valid a Valid b Valid c false d true e = refl
+      go Valid a Valid b Valid c false d false e =
+          rw (egress-after ids states mac interface time unchecked path way
+          (record { asked = a; placed = b; checked = c; going = rw (d, e) }))
