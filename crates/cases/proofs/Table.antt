@@ -258,7 +258,7 @@ failure (Failed why) = reverseNumber why
 failure Reversed = 0
 
 turned : List ℕ → List ℕ
-unfolding check setCurrHf setCurrInf reverseNumber usedSegments setLengths swapLengths toggleConsDir toggleConsDirs lastFirst reverseFields reverseParts reversed reverseAsked reverseAnswer bytesLeft reverseBytes
+unfolding check setCurrHf setCurrInf usedSegments setLengths swapLengths toggleConsDir toggleConsDirs lastFirst reverseFields reverseParts reversed reverseAsked reverseAnswer bytesLeft reverseBytes
 turned path = reverseBytes path
 
 -- (2,3,0), CurrHF 1, CurrINF 0, reversed: (3,2,0), CurrHF 3, CurrINF 1

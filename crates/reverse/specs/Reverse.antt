@@ -17,7 +17,7 @@ use Rattle.reverse.specs.declared.PathReverseError.the-variants.{MetaToo
 use Rattle.reverse.specs.declared.PathReverseError.the-variants.{NoSegments, HopOutOfBounds, InfoOutOfBounds}
 
 -- 01's number of an error
-unfoldable pub reverseNumber : PathReverseError → ℕ
+abbrev pub reverseNumber : PathReverseError → ℕ
 reverseNumber MetaTooShort = 2
 reverseNumber DataTooShort = 3
 reverseNumber TooManyHops = 4

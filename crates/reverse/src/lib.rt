@@ -13,7 +13,7 @@ ghost use Prim.Native.Nat.{_+_, _*_, _<_, _≤_};
 ghost use Rattle.standard_path.specs.Layout.{hopOffset};
 ghost use Rattle.reverse.specs.Reverse.{usedSegments, setLengths, swapLengths, toggleConsDirs};
 ghost use Rattle.reverse.specs.Reverse.{swapFields, reverseFields, reverseParts, reversed};
-ghost use Rattle.reverse.specs.Reverse.{reverseAsked, reverseAnswer, bytesLeft, reverseBytes};
+ghost use Rattle.reverse.specs.Reverse.{reverseNumber, reverseAsked, reverseAnswer, bytesLeft, reverseBytes};
 ghost use Rattle.reverse.specs.declared.Reversal.the-variants.{Reversed, Failed};
 
 // Why a path is not turned around: 01's answers 2, 3, 4, 20, 21 and 22.
@@ -29,6 +29,20 @@ pub enum PathReverseError {
 pub enum Reversal {
     Reversed,
     Failed(PathReverseError),
+}
+
+// 01's number of an error.
+pub fn reverse_number(error: PathReverseError) -> u8
+    ensures { λ r. ⌜ r ≡ reverseNumber error ⌝ }
+{
+    match error {
+        PathReverseError::MetaTooShort => 2,
+        PathReverseError::DataTooShort => 3,
+        PathReverseError::TooManyHops => 4,
+        PathReverseError::NoSegments => 20,
+        PathReverseError::HopOutOfBounds => 21,
+        PathReverseError::InfoOutOfBounds => 22,
+    }
 }
 
 // ---- the lengths

@@ -84,7 +84,7 @@ unfoldable pub expiration : List ℕ → PathExpiration
 expiration path = expirationAfter (headerCheck path) (pathExpiry path)
 
 -- 01's number of a refusal; 0 for a time
-unfoldable pub expirationNumber : PathExpiration → ℕ
+abbrev pub expirationNumber : PathExpiration → ℕ
 expirationNumber (At time) = 0
 expirationNumber MetaTooShort = 2
 expirationNumber DataTooShort = 3

@@ -10,7 +10,7 @@ ghost use mathlib.Core.Path.{_≡_};
 ghost use Prim.Native.Nat.{_+_, _<_, min};
 ghost use lib.Dec.{eqb};
 ghost use Rattle.standard_path.specs.Segments.{segmentCount, segLen, firstPlace, nextSegment};
-ghost use Rattle.standard_path.specs.Segments.{hopExpiry, segmentExpiry, pathExpiry, expiration};
+ghost use Rattle.standard_path.specs.Segments.{hopExpiry, segmentExpiry, pathExpiry, expiration, expirationNumber};
 
 // ---- the segments
 
@@ -173,5 +173,17 @@ pub fn expiration(path: &[u8]) -> PathExpiration
         HeaderCheck::MetaTooShort => PathExpiration::MetaTooShort,
         HeaderCheck::DataTooShort => PathExpiration::DataTooShort,
         HeaderCheck::TooManyHops => PathExpiration::TooManyHops,
+    }
+}
+
+// 01's number of a refusal, 0 for a time.
+pub fn expiration_number(answer: PathExpiration) -> u8
+    ensures { λ r. ⌜ r ≡ expirationNumber answer ⌝ }
+{
+    match answer {
+        PathExpiration::At(_) => 0,
+        PathExpiration::MetaTooShort => 2,
+        PathExpiration::DataTooShort => 3,
+        PathExpiration::TooManyHops => 4,
     }
 }
