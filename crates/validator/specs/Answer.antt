@@ -3,6 +3,7 @@
 use Prim.Native.Nat.{ℕ}
 use mathlib.Core.Bool.{Bool, true, false}
 use mathlib.Core.List.{List, [], _∷_}
+use lib.ListN.{getD}
 use Rattle.validator.specs.declared.answer.AdvanceError.{AdvanceError}
 use Rattle.validator.specs.declared.answer.AdvanceError.the-variants.{HopOutOfBounds, InfoOutOfBounds, InvalidSegmentIndex, SingleHopSegment, SegmentEnd}
 use Rattle.validator.specs.declared.answer.StandardRoutingError.{StandardRoutingError}
@@ -60,3 +61,7 @@ refusalValues (UnknownEgressInterface hop interface c) = hop ∷ interface ∷ f
 refusalValues (InvalidSegmentChange hop) = hop ∷ []
 refusalValues (EgressInterfaceDown hop interface) = hop ∷ interface ∷ []
 refusalValues (InvalidEgressInterface hop expected found c) = hop ∷ expected ∷ found ∷ flag c ∷ []
+
+-- values in four places, 0 in those behind the last
+abbrev pub fourValues : List ℕ → List ℕ
+fourValues values = getD values 0 0 ∷ getD values 1 0 ∷ getD values 2 0 ∷ getD values 3 0 ∷ []
