@@ -4,3 +4,4 @@ pub mod Moved
 pub mod Touched
 pub mod Inside
 pub mod Whole
+pub mod Numbers
