@@ -585,11 +585,11 @@ def link_pairs():
 
 
 def leaving():
-    step_at("egress not listed", altered(DOWN), [2, 3], [6, 5], 3, 1337)
-    step_at("egress down", altered(DOWN), [1, 3], [2, 5], 3, 1337)
-    step_at("egress 0 not listed", altered(UP), [1, 2], [6, 6], 1, 1337)
-    step_at("egress 0 down", altered(UP), [0, 1], [2, 6], 1, 1337)
-    step_at("egress 0 up", altered(UP), [0, 1], [6, 6], 1, 1337)
+    step_at("leaving, not listed", altered(DOWN), [2, 3], [6, 5], 3, 1337)
+    step_at("leaving, down", altered(DOWN), [1, 3], [2, 5], 3, 1337)
+    step_at("leaving by 0, not listed", altered(UP), [1, 2], [6, 6], 1, 1337)
+    step_at("leaving by 0, down", altered(UP), [0, 1], [2, 6], 1, 1337)
+    step_at("leaving by 0, up", altered(UP), [0, 1], [6, 6], 1, 1337)
 
 
 def departures():
@@ -697,7 +697,7 @@ def literal(name, path):
     ends += [header.hop_at(hop + 1) for hop in range(header.hops)]
     lines = [path[start:end] for start, end in zip([0] + ends, ends)]
     text = "\\\n".join("".join(f"\\x{byte:02x}" for byte in line) for line in lines)
-    return f'pub const {name}: [u8; {len(path)}] = *b"\\\n{text}";\n'
+    return f'pub(crate) const {name}: [u8; {len(path)}] = *b"\\\n{text}";\n'
 
 
 if sys.argv[1:] == ["paths"]:

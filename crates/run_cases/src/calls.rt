@@ -65,56 +65,62 @@ fn run_step(
 
 // ---- with the table above
 
-pub fn ingress(label: &[u8], path: &mut [u8], interface: u16, time: u32) {
+pub(crate) fn ingress(label: &[u8], path: &mut [u8], interface: u16, time: u32) {
     run_ingress(label, path, &IDS, &STATES, interface, time, false);
 }
 
-pub fn egress(label: &[u8], path: &mut [u8], interface: u16, time: u32) {
+pub(crate) fn egress(label: &[u8], path: &mut [u8], interface: u16, time: u32) {
     run_egress(label, path, &IDS, &STATES, interface, time, false);
 }
 
-pub fn step(label: &[u8], path: &mut [u8], interface: u16, time: u32) {
+pub(crate) fn step(label: &[u8], path: &mut [u8], interface: u16, time: u32) {
     run_step(label, path, &IDS, &STATES, interface, time, false);
 }
 
 // ---- with another table
 
-pub fn ingress_at(label: &[u8], path: &mut [u8], ids: &[u16], states: &[u8], interface: u16) {
+pub(crate) fn ingress_at(
+    label: &[u8],
+    path: &mut [u8],
+    ids: &[u16],
+    states: &[u8],
+    interface: u16,
+) {
     run_ingress(label, path, ids, states, interface, 1337, false);
 }
 
-pub fn egress_at(label: &[u8], path: &mut [u8], ids: &[u16], states: &[u8], interface: u16) {
+pub(crate) fn egress_at(label: &[u8], path: &mut [u8], ids: &[u16], states: &[u8], interface: u16) {
     run_egress(label, path, ids, states, interface, 1337, false);
 }
 
-pub fn step_at(label: &[u8], path: &mut [u8], ids: &[u16], states: &[u8], interface: u16) {
+pub(crate) fn step_at(label: &[u8], path: &mut [u8], ids: &[u16], states: &[u8], interface: u16) {
     run_step(label, path, ids, states, interface, 1337, false);
 }
 
 // ---- with MACs ignored
 
-pub fn ingress_unchecked(label: &[u8], path: &mut [u8], interface: u16, time: u32) {
+pub(crate) fn ingress_unchecked(label: &[u8], path: &mut [u8], interface: u16, time: u32) {
     run_ingress(label, path, &IDS, &STATES, interface, time, true);
 }
 
-pub fn egress_unchecked(label: &[u8], path: &mut [u8], interface: u16, time: u32) {
+pub(crate) fn egress_unchecked(label: &[u8], path: &mut [u8], interface: u16, time: u32) {
     run_egress(label, path, &IDS, &STATES, interface, time, true);
 }
 
-pub fn step_unchecked(label: &[u8], path: &mut [u8], interface: u16, time: u32) {
+pub(crate) fn step_unchecked(label: &[u8], path: &mut [u8], interface: u16, time: u32) {
     run_step(label, path, &IDS, &STATES, interface, time, true);
 }
 
 // ---- the other two calls
 
-pub fn reverse(label: &[u8], path: &mut [u8]) {
+pub(crate) fn reverse(label: &[u8], path: &mut [u8]) {
     put_label(b"reverse", label);
     let answer = reverse::try_reverse(path);
     print::put_reversal(answer);
     print::put_left(path);
 }
 
-pub fn expiration(label: &[u8], path: &[u8]) {
+pub(crate) fn expiration(label: &[u8], path: &[u8]) {
     put_label(b"expiration", label);
     print::put_expiration(segments::expiration(path));
     print::put_left(path);

@@ -308,11 +308,11 @@ fn leaves(label: &[u8], path: [u8; 48], ids: &[u16], states: &[u8], interface: u
 }
 
 fn leaving() {
-    leaves(b"egress not listed", DOWN, &[2, 3], b"\x06\x05", 3);
-    leaves(b"egress down", DOWN, &[1, 3], b"\x02\x05", 3);
-    leaves(b"egress 0 not listed", UP, &[1, 2], b"\x06\x06", 1);
-    leaves(b"egress 0 down", UP, &[0, 1], b"\x02\x06", 1);
-    leaves(b"egress 0 up", UP, &[0, 1], b"\x06\x06", 1);
+    leaves(b"leaving, not listed", DOWN, &[2, 3], b"\x06\x05", 3);
+    leaves(b"leaving, down", DOWN, &[1, 3], b"\x02\x05", 3);
+    leaves(b"leaving by 0, not listed", UP, &[1, 2], b"\x06\x06", 1);
+    leaves(b"leaving by 0, down", UP, &[0, 1], b"\x02\x06", 1);
+    leaves(b"leaving by 0, up", UP, &[0, 1], b"\x06\x06", 1);
 }
 
 fn departure(label: &[u8], path: [u8; 48], interface: u16, time: u32) {

@@ -1,7 +1,7 @@
 // The paths of the cases, as expected.py builds them: each MAC is right under the key, with the SegID that its hop is checked with.
 
 // Three hops in construction direction, at the second.
-pub const DOWN: [u8; 48] = *b"\
+pub(crate) const DOWN: [u8; 48] = *b"\
 \x01\x00\x30\x00\
 \x01\x00\x58\x1f\x00\x00\x03\xe8\
 \x00\x00\x00\x00\x00\x01\x4a\x2b\x72\x55\xb9\xe6\
@@ -9,7 +9,7 @@ pub const DOWN: [u8; 48] = *b"\
 \x00\x00\x00\x03\x00\x00\x58\x01\x82\x2b\x49\x2e";
 
 // The same, at the first.
-pub const DOWN_START: [u8; 48] = *b"\
+pub(crate) const DOWN_START: [u8; 48] = *b"\
 \x00\x00\x30\x00\
 \x01\x00\x12\x34\x00\x00\x03\xe8\
 \x00\x00\x00\x00\x00\x01\x4a\x2b\x72\x55\xb9\xe6\
@@ -17,7 +17,7 @@ pub const DOWN_START: [u8; 48] = *b"\
 \x00\x00\x00\x03\x00\x00\x58\x01\x82\x2b\x49\x2e";
 
 // Three hops against construction, at the second, which leaves by interface 0.
-pub const UP: [u8; 48] = *b"\
+pub(crate) const UP: [u8; 48] = *b"\
 \x01\x00\x30\x00\
 \x00\x00\xe4\x82\x00\x00\x03\xe8\
 \x00\x00\x00\x03\x00\x00\xba\xf2\x43\xf8\x97\xe9\
@@ -25,7 +25,7 @@ pub const UP: [u8; 48] = *b"\
 \x00\x00\x00\x00\x00\x01\x85\x25\x75\x31\x83\xaa";
 
 // Two hops against construction and two in it, at the segment change from interface 1 to interface 2.
-pub const UP_DOWN: [u8; 68] = *b"\
+pub(crate) const UP_DOWN: [u8; 68] = *b"\
 \x01\x00\x20\x80\
 \x00\x00\xe7\xdd\x00\x00\x03\xe8\
 \x01\x00\x9a\xbc\x00\x00\x04\x4c\
@@ -35,7 +35,7 @@ pub const UP_DOWN: [u8; 68] = *b"\
 \x00\x00\x00\x03\x00\x00\x72\x65\x27\x09\x85\x40";
 
 // Lengths (2,1,1), at a segment change that comes in by interface 0 or 4 and leaves by 2.
-pub const ONE_HOP: [u8; 76] = *b"\
+pub(crate) const ONE_HOP: [u8; 76] = *b"\
 \x01\x00\x20\x41\
 \x00\x00\x42\xa3\x00\x00\x03\xe8\
 \x01\x00\x9a\xbc\x00\x00\x03\xe8\
@@ -45,7 +45,7 @@ pub const ONE_HOP: [u8; 76] = *b"\
 \x00\x00\x00\x04\x00\x02\x11\xbd\xa3\x5a\x42\x06\
 \x00\x00\x00\x04\x00\x02\xc5\x10\x3a\xea\xe4\xf5";
 
-pub fn put_meta(path: &mut [u8], meta: [u8; 4]) {
+pub(crate) fn put_meta(path: &mut [u8], meta: [u8; 4]) {
     octets::put_byte(path, 0, meta[0]);
     octets::put_byte(path, 1, meta[1]);
     octets::put_byte(path, 2, meta[2]);
@@ -53,7 +53,7 @@ pub fn put_meta(path: &mut [u8], meta: [u8; 4]) {
 }
 
 // UP_DOWN under other lengths and indices.
-pub fn with_meta(meta: [u8; 4]) -> [u8; 68] {
+pub(crate) fn with_meta(meta: [u8; 4]) -> [u8; 68] {
     let mut path = UP_DOWN;
     put_meta(&mut path, meta);
     path

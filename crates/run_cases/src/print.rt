@@ -12,7 +12,7 @@ use validator::number;
 use validator::scmp;
 use validator::scmp::ScmpError;
 
-pub fn put(text: &[u8]) {
+pub(crate) fn put(text: &[u8]) {
     io::write_all(STDOUT_FILENO, text);
 }
 
@@ -34,7 +34,7 @@ fn put_hex(bytes: &[u8]) {
 }
 
 // Writes the bytes left, and ends the line.
-pub fn put_left(path: &[u8]) {
+pub(crate) fn put_left(path: &[u8]) {
     put(b", left ");
     put_hex(path);
     put(b"\n");
@@ -106,7 +106,7 @@ fn put_action(action: AsRoutingAction) {
     }
 }
 
-pub fn put_ingress_answer(answer: IngressNextAction) {
+pub(crate) fn put_ingress_answer(answer: IngressNextAction) {
     match answer {
         IngressNextAction::Complete(action) => put_action(action),
         IngressNextAction::Refused(why) => put_refusal(why),
@@ -119,14 +119,14 @@ pub fn put_ingress_answer(answer: IngressNextAction) {
     }
 }
 
-pub fn put_answer(answer: StepAnswer) {
+pub(crate) fn put_answer(answer: StepAnswer) {
     match answer {
         StepAnswer::Action(action) => put_action(action),
         StepAnswer::Refused(why) => put_refusal(why),
     }
 }
 
-pub fn put_reversal(answer: Reversal) {
+pub(crate) fn put_reversal(answer: Reversal) {
     match answer {
         Reversal::Reversed => put(b"Reversed"),
         Reversal::Failed(error) => {
@@ -136,7 +136,7 @@ pub fn put_reversal(answer: Reversal) {
     }
 }
 
-pub fn put_expiration(answer: PathExpiration) {
+pub(crate) fn put_expiration(answer: PathExpiration) {
     let PathExpiration::At(time) = answer else {
         put(b"refused");
         put_number(segments::expiration_number(answer) as u64);
