@@ -1,0 +1,52 @@
+use borrow.Author.Needs.{needs}
+use mathlib.Core.Path.{sym, _∙_}
+use native.Mathlib.Omega.{arith}
+use Rattle.itinerary.specs.Layout.{narrow}
+use Rattle.itinerary.specs.Records.{recordCount, firstInterfaceOf}
+use Rattle.itinerary.specs.Itinerary.{stationWithin}
+use Rattle.itinerary.proofs.Walks.{Sought, sought-end, sought-out, sought-here, sought-on}
+use Rattle.itinerary.proofs.station.lookup.Statement.{statement}
+use Rattle.itinerary.proofs.station.lookup.Tie as tie
+
+abbrev Inv-loop : tie.InvT-loop
+Inv-loop itinerary station number index₀ left₀ index left = Sought narrow itinerary number (recordCount narrow itinerary) (firstInterfaceOf narrow itinerary station) left index
+
+abbrev μ-loop : tie.MeasureT-loop
+μ-loop itinerary station number index₀ left₀ index left = left
+
+loop-holds : tie.Need-loop-holds Inv-loop μ-loop
+loop-holds c = record { rest = rw (← c .before .first-interface .ensures, ← c .record-count .ensures) }
+
+returns : tie.Need-returns Inv-loop μ-loop
+unfolding stationWithin
+returns c = sought-end (c .before .before .loop .inv) (c .if1 .taken)
+
+returns-2 : tie.Need-returns-2 Inv-loop μ-loop
+unfolding stationWithin
+returns-2 c = rw (c .interface-state .ensures) (sought-here (c .before .before .before .before .before .loop .inv) (search needs) (c .before .before .before .if1 .left) (sym (c .before .before .interface-number .ensures) ∙ c .before .if2 .taken))
+
+loop-again : tie.Need-loop-again Inv-loop μ-loop
+loop-again c = sought-on (c .before .before .before .before .before .loop .inv) (search needs) (c .before .before .before .if1 .left) (λ e. c .before .if2 .left (c .before .before .interface-number .ensures ∙ e)) (c .next .ensures)
+
+returns-3 : tie.Need-returns-3 Inv-loop μ-loop
+unfolding stationWithin
+returns-3 c = sought-out (c .before .loop .inv) (omega arith)
+
+pub lookup-spec : {M : Type 1} → statement M
+lookup-spec =
+    tie.close
+    (tie.spec
+    Inv-loop
+    μ-loop
+    (λ c κs. search needs)
+    (λ c κs. search needs)
+    loop-holds
+    returns
+    (λ c κs. search needs)
+    (λ c κs. search needs)
+    returns-2
+    (λ c κs. search needs)
+    (λ c. search needs)
+    (λ c. search needs)
+    loop-again
+    returns-3)

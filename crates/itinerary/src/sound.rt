@@ -1,0 +1,174 @@
+// Whether an itinerary is sound. Chains are followed only as far as a limit goes, so that the work is bounded whatever the bytes.
+use crate::layout::HeadLayout;
+use crate::layout::InterfaceRecordLayout;
+use crate::layout::RecordLayout;
+use crate::layout::StationLayout;
+use crate::record;
+ghost use mathlib.Core.Path.{_≡_};
+ghost use Rattle.itinerary.specs.Layout.{narrow};
+ghost use Rattle.itinerary.specs.Records.{every, chain};
+ghost use Rattle.itinerary.specs.Itinerary.{stationRecords, sizeSound, nextSound, areZero, isNoStation, interfaceSound};
+ghost use Rattle.itinerary.specs.Itinerary.{stationSound, headSound, soundWithin};
+
+fn is_size_sound(itinerary: &[u8]) -> bool
+    ensures { λ r. ⌜ r ≡ sizeSound narrow (now (itinerary .entry)) ⌝ }
+{
+    if itinerary.len() % RecordLayout::SIZE_BYTES != 0 {
+        return false;
+    }
+    let count = record::record_count(itinerary);
+    if count < 1 {
+        return false;
+    }
+    count <= RecordLayout::MAX_RECORDS
+}
+
+fn are_zero(itinerary: &[u8], index: u32, field: u8, count: u8) -> bool
+    ensures { λ r. ⌜ r ≡ areZero narrow (now (itinerary .entry)) index field count ⌝ }
+{
+    let at = RecordLayout::offset(index, field);
+    let mut i: u8 = 0;
+    while i < count {
+        if octets::byte_at(itinerary, at + (i as usize)) != 0 {
+            return false;
+        }
+        i += 1;
+    }
+    true
+}
+
+fn is_head_sound(itinerary: &[u8]) -> bool
+    ensures { λ r. ⌜ r ≡ headSound narrow (now (itinerary .entry)) ⌝ }
+{
+    if !are_zero(itinerary, 0, HeadLayout::ZEROS, HeadLayout::ZEROS_BYTES) {
+        return false;
+    }
+    (record::next(itinerary, 0) as usize) < record::record_count(itinerary)
+}
+
+fn is_next_sound(itinerary: &[u8], index: u32) -> bool
+    ensures { λ r. ⌜ r ≡ nextSound narrow (now (itinerary .entry)) index ⌝ }
+{
+    let next = record::next(itinerary, index);
+    if next == 0 {
+        return true;
+    }
+    if next <= index {
+        return false;
+    }
+    (next as usize) < record::record_count(itinerary)
+}
+
+fn is_no_station(itinerary: &[u8], station_limit: u32, index: u32) -> bool
+    ensures { λ r. ⌜ r ≡ isNoStation narrow (now (itinerary .entry)) «station_limit» index ⌝ }
+{
+    let mut station = record::next(itinerary, 0);
+    let mut left = station_limit;
+    while 0 < left {
+        if station == 0 {
+            return true;
+        }
+        if station == index {
+            return false;
+        }
+        station = record::next(itinerary, station);
+        left -= 1;
+    }
+    true
+}
+
+fn is_interface_sound(itinerary: &[u8], station_limit: u32, index: u32) -> bool
+    ensures { λ r. ⌜ r ≡ interfaceSound narrow (now (itinerary .entry)) «station_limit» index ⌝ }
+{
+    if !is_next_sound(itinerary, index) {
+        return false;
+    }
+    if !are_zero(
+        itinerary,
+        index,
+        InterfaceRecordLayout::ZEROS,
+        InterfaceRecordLayout::ZEROS_BYTES,
+    ) {
+        return false;
+    }
+    is_no_station(itinerary, station_limit, index)
+}
+
+fn are_interfaces_sound(itinerary: &[u8], station_limit: u32, table_limit: u32, first: u32) -> bool
+    ensures { λ r. ⌜ r ≡ every (interfaceSound narrow (now (itinerary .entry)) «station_limit»)
+        (chain narrow (now (itinerary .entry)) «table_limit» first) ⌝ }
+{
+    let mut index = first;
+    let mut left = table_limit;
+    while 0 < left {
+        if index == 0 {
+            return true;
+        }
+        if !is_interface_sound(itinerary, station_limit, index) {
+            return false;
+        }
+        index = record::next(itinerary, index);
+        left -= 1;
+    }
+    true
+}
+
+fn is_station_sound(itinerary: &[u8], station_limit: u32, table_limit: u32, index: u32) -> bool
+    ensures { λ r. ⌜ r ≡ stationSound narrow (now (itinerary .entry)) «station_limit» «table_limit» index ⌝ }
+{
+    if !is_next_sound(itinerary, index) {
+        return false;
+    }
+    if !are_zero(
+        itinerary,
+        index,
+        StationLayout::ZEROS,
+        StationLayout::ZEROS_BYTES,
+    ) {
+        return false;
+    }
+    if !are_zero(
+        itinerary,
+        index,
+        StationLayout::LAST_ZEROS,
+        StationLayout::LAST_ZEROS_BYTES,
+    ) {
+        return false;
+    }
+    let first = record::first_interface(itinerary, index);
+    if record::record_count(itinerary) <= (first as usize) {
+        return false;
+    }
+    are_interfaces_sound(itinerary, station_limit, table_limit, first)
+}
+
+fn are_stations_sound(itinerary: &[u8], station_limit: u32, table_limit: u32) -> bool
+    ensures { λ r. ⌜ r ≡ every (stationSound narrow (now (itinerary .entry)) «station_limit» «table_limit»)
+        (stationRecords narrow (now (itinerary .entry)) «station_limit») ⌝ }
+{
+    let mut station = record::next(itinerary, 0);
+    let mut left = station_limit;
+    while 0 < left {
+        if station == 0 {
+            return true;
+        }
+        if !is_station_sound(itinerary, station_limit, table_limit, station) {
+            return false;
+        }
+        station = record::next(itinerary, station);
+        left -= 1;
+    }
+    true
+}
+
+pub fn is_sound_within(itinerary: &[u8], station_limit: u32, table_limit: u32) -> bool
+    ensures { λ r. ⌜ r ≡ soundWithin narrow (now (itinerary .entry)) «station_limit» «table_limit» ⌝ }
+{
+    if !is_size_sound(itinerary) {
+        return false;
+    }
+    if !is_head_sound(itinerary) {
+        return false;
+    }
+    are_stations_sound(itinerary, station_limit, table_limit)
+}

@@ -1,0 +1,171 @@
+// An itinerary's stations: do they fit a path, and what does each hold?
+use crate::record;
+use crate::sound;
+use interface_table::Listed;
+ghost use mathlib.Core.Path.{_≡_};
+ghost use Prim.Native.Nat.{_+_};
+ghost use mathlib.Core.Bool.{not};
+ghost use mathlib.Core.List.{map};
+ghost use lib.Dec.{eqb};
+ghost use lib.ListN.{length, getD};
+ghost use Rattle.interface_table.specs.Table.{tableSound, stateOf};
+ghost use Rattle.itinerary.specs.Layout.{narrow};
+ghost use Rattle.itinerary.specs.Records.{every, recordCount, arrivalOf, interfaceNumberOf, interfaceStateOf, chain};
+ghost use Rattle.itinerary.specs.Itinerary.{stationRecords, stationsWithin, stationAt, tablesSound, arrivalsFit, itineraryFits};
+
+// One record more than a sound table has.
+const TABLE_LIMIT: u32 = 257;
+
+// ---- do they fit?
+
+fn is_table_sound(itinerary: &[u8], first: u32) -> bool
+    ensures { λ r. ⌜ r ≡ tableSound
+        (map (interfaceNumberOf narrow (now (itinerary .entry))) (chain narrow (now (itinerary .entry)) 257 first))
+        (map (interfaceStateOf narrow (now (itinerary .entry))) (chain narrow (now (itinerary .entry)) 257 first)) ⌝ }
+{
+    let mut index = first;
+    let mut left = TABLE_LIMIT;
+    let mut lowest: u32 = 0;
+    while 0 < left {
+        if index == 0 {
+            return true;
+        }
+        let number = record::interface_number(itinerary, index) as u32;
+        if number < lowest {
+            return false;
+        }
+        if 8 <= record::interface_state(itinerary, index) {
+            return false;
+        }
+        lowest = number + 1;
+        index = record::next(itinerary, index);
+        left -= 1;
+    }
+    false
+}
+
+fn are_tables_sound(itinerary: &[u8], station_limit: u32) -> bool
+    ensures { λ r. ⌜ r ≡ tablesSound (stationsWithin narrow (now (itinerary .entry)) «station_limit» 257) ⌝ }
+{
+    let mut station = record::next(itinerary, 0);
+    let mut left = station_limit;
+    while 0 < left {
+        if station == 0 {
+            return true;
+        }
+        if !is_table_sound(itinerary, record::first_interface(itinerary, station)) {
+            return false;
+        }
+        station = record::next(itinerary, station);
+        left -= 1;
+    }
+    true
+}
+
+fn station_count(itinerary: &[u8], station_limit: u32) -> u32
+    ensures { λ r. ⌜ r ≡ length (stationRecords narrow (now (itinerary .entry)) «station_limit») ⌝ }
+{
+    let mut station = record::next(itinerary, 0);
+    let mut left = station_limit;
+    while 0 < left {
+        if station == 0 {
+            return station_limit - left;
+        }
+        station = record::next(itinerary, station);
+        left -= 1;
+    }
+    station_limit
+}
+
+fn later_arrivals_fit(itinerary: &[u8], second: u32, limit: u32) -> bool
+    ensures { λ r. ⌜ r ≡ every (λ station. not (eqb (arrivalOf narrow (now (itinerary .entry)) station) 0))
+        (chain narrow (now (itinerary .entry)) limit second) ⌝ }
+{
+    let mut station = second;
+    let mut left = limit;
+    while 0 < left {
+        if station == 0 {
+            return true;
+        }
+        if record::arrival(itinerary, station) == 0 {
+            return false;
+        }
+        station = record::next(itinerary, station);
+        left -= 1;
+    }
+    true
+}
+
+fn arrivals_fit(itinerary: &[u8], later: u32) -> bool
+    ensures { λ r. ⌜ r ≡ arrivalsFit (stationsWithin narrow (now (itinerary .entry)) (later + 1) 257) ⌝ }
+{
+    let first = record::next(itinerary, 0);
+    if first == 0 {
+        return true;
+    }
+    if record::arrival(itinerary, first) != 0 {
+        return false;
+    }
+    later_arrivals_fit(itinerary, record::next(itinerary, first), later)
+}
+
+// Question 23 but for the clock readings: sound, tables too, as many stations as wanted, and their arrivals.
+pub fn fits(itinerary: &[u8], wanted: u8) -> bool
+    ensures { λ r. ⌜ r ≡ itineraryFits narrow (now (itinerary .entry)) wanted ⌝ }
+{
+    let later = wanted as u32;
+    let limit = later + 1;
+    if !sound::is_sound_within(itinerary, limit, TABLE_LIMIT) {
+        return false;
+    }
+    if station_count(itinerary, limit) != later {
+        return false;
+    }
+    if !arrivals_fit(itinerary, later) {
+        return false;
+    }
+    are_tables_sound(itinerary, limit)
+}
+
+// ---- what does each hold?
+
+// The record of the station with this place in the chain, counted from 0; 0 where there is none.
+pub fn station_record(itinerary: &[u8], place: u8) -> u32
+    ensures { λ r. ⌜ r ≡ getD (stationRecords narrow (now (itinerary .entry)) (recordCount narrow (now (itinerary .entry)))) place 0 ⌝ }
+{
+    let mut station = record::next(itinerary, 0);
+    let mut left = record::record_count(itinerary);
+    let mut passed: u8 = 0;
+    while 0 < left {
+        if station == 0 {
+            return 0;
+        }
+        if passed == place {
+            return station;
+        }
+        station = record::next(itinerary, station);
+        passed += 1;
+        left -= 1;
+    }
+    0
+}
+
+// What the station's table has for an interface number.
+pub fn lookup(itinerary: &[u8], station: u32, number: u16) -> Listed
+    ensures { λ r. ⌜ r ≡ stateOf (stationAt narrow (now (itinerary .entry)) station .ids)
+        (stationAt narrow (now (itinerary .entry)) station .states) number ⌝ }
+{
+    let mut index = record::first_interface(itinerary, station);
+    let mut left = record::record_count(itinerary);
+    while 0 < left {
+        if index == 0 {
+            return Listed::Nothing;
+        }
+        if record::interface_number(itinerary, index) == number {
+            return Listed::State(record::interface_state(itinerary, index));
+        }
+        index = record::next(itinerary, index);
+        left -= 1;
+    }
+    Listed::Nothing
+}
