@@ -15,7 +15,7 @@ use Rattle.interface_table.proofs.Entries.{sound-by-entries}
 use Rattle.itinerary.specs.Layout.{Layout}
 use Rattle.itinerary.specs.Records.{every, recordCount, nextOf, interfaceNumberOf, firstInterfaceOf, firstStation, chain}
 use Rattle.itinerary.specs.Itinerary.{stationRecords, tableRecords, indexSound, nextSound, isNoStation, interfaceSound, stationSound}
-use Rattle.itinerary.specs.Itinerary.{sizeSound, zerosSound, headSound, soundWithin, stationWithin, stationsWithin}
+use Rattle.itinerary.specs.Itinerary.{sizeSound, zerosSound, headSound, soundWithin, stationWithin, stationsWithin, tablesSound, arrivalsFit}
 use Rattle.itinerary.specs.Itinerary.{fitsWithin, stations, itineraryFits}
 use Rattle.itinerary.proofs.Walks.{chain-end}
 use Rattle.itinerary.proofs.Stations.{hasSoundTable, tables-by-records, count-by-records}
@@ -280,8 +280,15 @@ module _ (layout : Layout) (itinerary : List ℕ) where
   fits-within wanted s t s′ t′ reach reach′ =
       each-way _ _ (λ e. same-fit wanted s t s′ t′ reach reach′ e ∙ e) (λ e. same-fit wanted s′ t′ s t reach′ reach e ∙ e)
 
-  pub fits-bounded : (wanted stationLimit tableLimit : ℕ) → wanted < stationLimit → 256 < tableLimit
-      → fitsWithin layout itinerary stationLimit tableLimit wanted ≡ itineraryFits layout itinerary wanted
-  fits-bounded wanted stationLimit tableLimit h k =
-      fits-within wanted stationLimit tableLimit (recordCount layout itinerary) (recordCount layout itinerary)
-      (record { stations = λ b. h; table = λ n l b. omega arith }) (record { stations = λ b. b; table = λ n l b. b })
+  -- one station more than wanted, and one record more than a sound table has
+  pub fits-bounded : (wanted : ℕ) → fitsWithin layout itinerary (wanted + 1) 257 wanted ≡ itineraryFits layout itinerary wanted
+  fits-bounded wanted =
+      fits-within wanted (wanted + 1) 257 (recordCount layout itinerary) (recordCount layout itinerary)
+      (record { stations = λ b. omega arith; table = λ n l b. omega arith }) (record { stations = λ b. b; table = λ n l b. b })
+
+  pub fits-asked : (wanted : ℕ)
+      → (soundWithin layout itinerary (wanted + 1) 257 && eqb (length (stationRecords layout itinerary (wanted + 1))) wanted
+      && arrivalsFit (stationsWithin layout itinerary (wanted + 1) 257) && tablesSound (stationsWithin layout itinerary (wanted + 1) 257))
+      ≡ itineraryFits layout itinerary wanted
+  unfolding fitsWithin
+  fits-asked wanted = rw (← count-by-records layout itinerary (wanted + 1) 257) (fits-bounded wanted)

@@ -1,4 +1,6 @@
 // Whether an itinerary is sound. Chains are followed only as far as a limit goes, so that the work is bounded whatever the bytes.
+//
+// Questions are joined by `&`: a plan is nearly always sound, and a loop stops at its first bad record anyway.
 use crate::layout::HeadLayout;
 use crate::layout::InterfaceRecordLayout;
 use crate::layout::RecordLayout;
@@ -7,20 +9,29 @@ use crate::record;
 ghost use mathlib.Core.Path.{_≡_};
 ghost use Rattle.itinerary.specs.Layout.{narrow};
 ghost use Rattle.itinerary.specs.Records.{every, chain};
-ghost use Rattle.itinerary.specs.Itinerary.{stationRecords, sizeSound, nextSound, areZero, isNoStation, interfaceSound};
-ghost use Rattle.itinerary.specs.Itinerary.{stationSound, headSound, soundWithin};
+ghost use Rattle.itinerary.specs.Itinerary.{stationRecords, sizeSound, indexSound, nextSound, areZero, zerosSound, isNoStation};
+ghost use Rattle.itinerary.specs.Itinerary.{interfaceSound, stationSound, headSound, soundWithin};
 
 fn is_size_sound(itinerary: &[u8]) -> bool
     ensures { λ r. ⌜ r ≡ sizeSound narrow (now (itinerary .entry)) ⌝ }
 {
-    if itinerary.len() % RecordLayout::SIZE_BYTES != 0 {
-        return false;
-    }
     let count = record::record_count(itinerary);
-    if count < 1 {
-        return false;
-    }
-    count <= RecordLayout::MAX_RECORDS
+    (itinerary.len() % RecordLayout::SIZE_BYTES == 0)
+        & (1 <= count)
+        & (count <= RecordLayout::MAX_RECORDS)
+}
+
+fn is_index_sound(itinerary: &[u8], index: u32) -> bool
+    ensures { λ r. ⌜ r ≡ indexSound narrow (now (itinerary .entry)) index ⌝ }
+{
+    (index as usize) < record::record_count(itinerary)
+}
+
+fn is_next_sound(itinerary: &[u8], index: u32) -> bool
+    ensures { λ r. ⌜ r ≡ nextSound narrow (now (itinerary .entry)) index ⌝ }
+{
+    let next = record::next(itinerary, index);
+    (next == 0) | ((index < next) & is_index_sound(itinerary, next))
 }
 
 fn are_zero(itinerary: &[u8], index: u32, field: u8, count: u8) -> bool
@@ -37,26 +48,17 @@ fn are_zero(itinerary: &[u8], index: u32, field: u8, count: u8) -> bool
     true
 }
 
-fn is_head_sound(itinerary: &[u8]) -> bool
-    ensures { λ r. ⌜ r ≡ headSound narrow (now (itinerary .entry)) ⌝ }
-{
-    if !are_zero(itinerary, 0, HeadLayout::ZEROS, HeadLayout::ZEROS_BYTES) {
-        return false;
-    }
-    (record::next(itinerary, 0) as usize) < record::record_count(itinerary)
-}
+// ---- an interface record
 
-fn is_next_sound(itinerary: &[u8], index: u32) -> bool
-    ensures { λ r. ⌜ r ≡ nextSound narrow (now (itinerary .entry)) index ⌝ }
+fn are_interface_zeros_sound(itinerary: &[u8], index: u32) -> bool
+    ensures { λ r. ⌜ r ≡ zerosSound narrow (now (itinerary .entry)) (narrow .interfaceZeros) index ⌝ }
 {
-    let next = record::next(itinerary, index);
-    if next == 0 {
-        return true;
-    }
-    if next <= index {
-        return false;
-    }
-    (next as usize) < record::record_count(itinerary)
+    are_zero(
+        itinerary,
+        index,
+        InterfaceRecordLayout::ZEROS,
+        InterfaceRecordLayout::ZEROS_BYTES,
+    )
 }
 
 fn is_no_station(itinerary: &[u8], station_limit: u32, index: u32) -> bool
@@ -80,18 +82,9 @@ fn is_no_station(itinerary: &[u8], station_limit: u32, index: u32) -> bool
 fn is_interface_sound(itinerary: &[u8], station_limit: u32, index: u32) -> bool
     ensures { λ r. ⌜ r ≡ interfaceSound narrow (now (itinerary .entry)) «station_limit» index ⌝ }
 {
-    if !is_next_sound(itinerary, index) {
-        return false;
-    }
-    if !are_zero(
-        itinerary,
-        index,
-        InterfaceRecordLayout::ZEROS,
-        InterfaceRecordLayout::ZEROS_BYTES,
-    ) {
-        return false;
-    }
-    is_no_station(itinerary, station_limit, index)
+    is_next_sound(itinerary, index)
+        & are_interface_zeros_sound(itinerary, index)
+        & is_no_station(itinerary, station_limit, index)
 }
 
 fn are_interfaces_sound(itinerary: &[u8], station_limit: u32, table_limit: u32, first: u32) -> bool
@@ -113,33 +106,33 @@ fn are_interfaces_sound(itinerary: &[u8], station_limit: u32, table_limit: u32, 
     true
 }
 
-fn is_station_sound(itinerary: &[u8], station_limit: u32, table_limit: u32, index: u32) -> bool
-    ensures { λ r. ⌜ r ≡ stationSound narrow (now (itinerary .entry)) «station_limit» «table_limit» index ⌝ }
+// ---- a station
+
+fn are_station_zeros_sound(itinerary: &[u8], index: u32) -> bool
+    ensures { λ r. ⌜ r ≡ zerosSound narrow (now (itinerary .entry)) (narrow .stationZeros) index ⌝ }
 {
-    if !is_next_sound(itinerary, index) {
-        return false;
-    }
-    if !are_zero(
+    are_zero(
         itinerary,
         index,
         StationLayout::ZEROS,
         StationLayout::ZEROS_BYTES,
-    ) {
-        return false;
-    }
-    if !are_zero(
-        itinerary,
-        index,
-        StationLayout::LAST_ZEROS,
-        StationLayout::LAST_ZEROS_BYTES,
-    ) {
-        return false;
-    }
+    )
+        & are_zero(
+            itinerary,
+            index,
+            StationLayout::LAST_ZEROS,
+            StationLayout::LAST_ZEROS_BYTES,
+        )
+}
+
+fn is_station_sound(itinerary: &[u8], station_limit: u32, table_limit: u32, index: u32) -> bool
+    ensures { λ r. ⌜ r ≡ stationSound narrow (now (itinerary .entry)) «station_limit» «table_limit» index ⌝ }
+{
     let first = record::first_interface(itinerary, index);
-    if record::record_count(itinerary) <= (first as usize) {
-        return false;
-    }
-    are_interfaces_sound(itinerary, station_limit, table_limit, first)
+    is_next_sound(itinerary, index)
+        & are_station_zeros_sound(itinerary, index)
+        & is_index_sound(itinerary, first)
+        & are_interfaces_sound(itinerary, station_limit, table_limit, first)
 }
 
 fn are_stations_sound(itinerary: &[u8], station_limit: u32, table_limit: u32) -> bool
@@ -161,14 +154,19 @@ fn are_stations_sound(itinerary: &[u8], station_limit: u32, table_limit: u32) ->
     true
 }
 
+// ---- the whole
+
+fn is_head_sound(itinerary: &[u8]) -> bool
+    ensures { λ r. ⌜ r ≡ headSound narrow (now (itinerary .entry)) ⌝ }
+{
+    are_zero(itinerary, 0, HeadLayout::ZEROS, HeadLayout::ZEROS_BYTES)
+        & is_index_sound(itinerary, record::next(itinerary, 0))
+}
+
 pub fn is_sound_within(itinerary: &[u8], station_limit: u32, table_limit: u32) -> bool
     ensures { λ r. ⌜ r ≡ soundWithin narrow (now (itinerary .entry)) «station_limit» «table_limit» ⌝ }
 {
-    if !is_size_sound(itinerary) {
-        return false;
-    }
-    if !is_head_sound(itinerary) {
-        return false;
-    }
-    are_stations_sound(itinerary, station_limit, table_limit)
+    is_size_sound(itinerary)
+        & is_head_sound(itinerary)
+        & are_stations_sound(itinerary, station_limit, table_limit)
 }

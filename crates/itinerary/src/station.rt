@@ -115,16 +115,10 @@ pub fn fits(itinerary: &[u8], wanted: u8) -> bool
 {
     let later = wanted as u32;
     let limit = later + 1;
-    if !sound::is_sound_within(itinerary, limit, TABLE_LIMIT) {
-        return false;
-    }
-    if station_count(itinerary, limit) != later {
-        return false;
-    }
-    if !arrivals_fit(itinerary, later) {
-        return false;
-    }
-    are_tables_sound(itinerary, limit)
+    sound::is_sound_within(itinerary, limit, TABLE_LIMIT)
+        & (station_count(itinerary, limit) == later)
+        & arrivals_fit(itinerary, later)
+        & are_tables_sound(itinerary, limit)
 }
 
 // ---- what does each hold?
