@@ -34,57 +34,68 @@ abbrev changed : List (ℕ × ℕ × ℕ) → List ℕ
 changed [] = plan
 changed (byte ∷ bytes) = set (changed bytes) (32 * byte .0 + byte .1) (byte .2)
 
-abbrev alike : (List (ℕ × ℕ × ℕ) → Bool) → Bool → List (List (ℕ × ℕ × ℕ)) → Type 0
-alike holds answer cases = map holds cases ≡ map (λ c. answer) cases
+abbrev AllAnswer : (List ℕ → Bool) → Bool → List (List ℕ) → Type 0
+AllAnswer asks answer itineraries = map asks itineraries ≡ map (λ itinerary. answer) itineraries
 
-abbrev soundWith : List (ℕ × ℕ × ℕ) → Bool
-soundWith bytes = itinerarySound narrow (changed bytes)
+-- ---- soundness
 
-abbrev fitsWith : ℕ → List (ℕ × ℕ × ℕ) → Bool
-fitsWith wanted bytes = itineraryFits narrow (changed bytes) wanted
+abbrev soundOnes : List (List ℕ)
+soundOnes =
+    plan
+    -- no station, three stations
+    ∷ changed ((0, 1, 0) ∷ [])
+    ∷ changed ((2, 1, 5) ∷ (5, 1, 0) ∷ (5, 3, 1) ∷ (5, 5, 0) ∷ (5, 6, 0) ∷ [])
+    -- no table
+    ∷ changed ((2, 5, 0) ∷ [])
+    -- any key
+    ∷ changed ((1, 8, 255) ∷ (1, 23, 255) ∷ [])
+    -- any bytes where nothing reaches
+    ∷ changed ((5, 0, 255) ∷ (5, 31, 255) ∷ [])
+    -- a state and numbers that no sound table has
+    ∷ changed ((3, 4, 8) ∷ [])
+    ∷ changed ((4, 3, 7) ∷ [])
+    -- a table that stands before its station
+    ∷ (padded 32 (0 ∷ 2 ∷ []) ++ padded 32 (0 ∷ 0 ∷ 0 ∷ 7 ∷ 4 ∷ []) ++ padded 32 (0 ∷ 0 ∷ 0 ∷ 0 ∷ 0 ∷ 1 ∷ []))
+    ∷ []
 
--- ---- sound: as it is; no station; no table; any key; any bytes in the last record; a state and numbers that no sound table has
-
-sound : alike soundWith true
-    ([] ∷ ((0, 1, 0) ∷ []) ∷ ((2, 5, 0) ∷ []) ∷ ((1, 8, 255) ∷ (1, 23, 255) ∷ []) ∷ ((5, 0, 255) ∷ (5, 31, 255) ∷ [])
-    ∷ ((3, 4, 8) ∷ []) ∷ ((4, 3, 7) ∷ []) ∷ [])
+sound : AllAnswer (itinerarySound narrow) true soundOnes
 unfolding every recordCount bytesOf nextOf firstInterfaceOf chain sizeSound nextSound areZero zerosSound isNoStation interfaceSound stationSound headSound soundWithin
 sound = refl
 
--- a table may stand before its station
-backwards : itinerarySound narrow
-    (padded 32 (0 ∷ 2 ∷ []) ++ padded 32 (0 ∷ 0 ∷ 0 ∷ 7 ∷ 4 ∷ []) ++ padded 32 (0 ∷ 0 ∷ 0 ∷ 0 ∷ 0 ∷ 1 ∷ [])) ≡ true
-unfolding every recordCount bytesOf nextOf firstInterfaceOf chain sizeSound nextSound areZero zerosSound isNoStation interfaceSound stationSound headSound soundWithin
-backwards = refl
+abbrev unsoundOnes : List (List ℕ)
+unsoundOnes =
+    -- no record, a byte more, a byte less
+    []
+    ∷ (plan ++ 0 ∷ [])
+    ∷ take 191 plan
+    -- an index not below 6, the record count: the first station's, a next, a first interface record's
+    ∷ changed ((0, 1, 6) ∷ [])
+    ∷ changed ((0, 0, 1) ∷ [])
+    ∷ changed ((1, 1, 6) ∷ [])
+    ∷ changed ((3, 1, 6) ∷ [])
+    ∷ changed ((1, 5, 6) ∷ [])
+    ∷ changed ((2, 4, 1) ∷ [])
+    -- a next that is its own, or below it
+    ∷ changed ((1, 1, 1) ∷ [])
+    ∷ changed ((2, 1, 1) ∷ [])
+    ∷ changed ((3, 1, 3) ∷ [])
+    ∷ changed ((4, 1, 3) ∷ [])
+    -- a nonzero byte at each end of each range of zeros
+    ∷ changed ((0, 2, 1) ∷ [])
+    ∷ changed ((0, 31, 1) ∷ [])
+    ∷ changed ((1, 6, 1) ∷ [])
+    ∷ changed ((1, 7, 1) ∷ [])
+    ∷ changed ((2, 24, 1) ∷ [])
+    ∷ changed ((2, 31, 1) ∷ [])
+    ∷ changed ((3, 5, 1) ∷ [])
+    ∷ changed ((4, 31, 1) ∷ [])
+    -- the second station, without a table, is the first one's interface too
+    ∷ changed ((2, 5, 0) ∷ (1, 5, 2) ∷ [])
+    ∷ []
 
--- ---- unsound
-
--- an index not below the record count, 6: the first station's, a next, a first interface record's
-outside : alike soundWith false (((0, 1, 6) ∷ []) ∷ ((0, 0, 1) ∷ []) ∷ ((1, 1, 6) ∷ []) ∷ ((3, 1, 6) ∷ []) ∷ ((1, 5, 6) ∷ []) ∷ ((2, 4, 1) ∷ []) ∷ [])
+unsound : AllAnswer (itinerarySound narrow) false unsoundOnes
 unfolding every recordCount bytesOf nextOf firstInterfaceOf chain sizeSound nextSound areZero zerosSound isNoStation interfaceSound stationSound headSound soundWithin
-outside = refl
-
--- a next that is its own, or below it
-not-above : alike soundWith false (((1, 1, 1) ∷ []) ∷ ((2, 1, 1) ∷ []) ∷ ((3, 1, 3) ∷ []) ∷ ((4, 1, 3) ∷ []) ∷ [])
-unfolding every recordCount bytesOf nextOf firstInterfaceOf chain sizeSound nextSound areZero zerosSound isNoStation interfaceSound stationSound headSound soundWithin
-not-above = refl
-
--- a nonzero byte at each end of each range that is named
-nonzero : alike soundWith false
-    (((0, 2, 1) ∷ []) ∷ ((0, 31, 1) ∷ []) ∷ ((1, 6, 1) ∷ []) ∷ ((1, 7, 1) ∷ []) ∷ ((2, 24, 1) ∷ []) ∷ ((2, 31, 1) ∷ [])
-    ∷ ((3, 5, 1) ∷ []) ∷ ((4, 31, 1) ∷ []) ∷ [])
-unfolding every recordCount bytesOf nextOf firstInterfaceOf chain sizeSound nextSound areZero zerosSound isNoStation interfaceSound stationSound headSound soundWithin
-nonzero = refl
-
--- the second station, with no table, is the first one's interface too
-both : alike soundWith false (((2, 5, 0) ∷ (1, 5, 2) ∷ []) ∷ [])
-unfolding every recordCount bytesOf nextOf firstInterfaceOf chain sizeSound nextSound areZero zerosSound isNoStation interfaceSound stationSound headSound soundWithin
-both = refl
-
--- no record, a byte more, a byte less
-sizes : map (itinerarySound narrow) ([] ∷ (plan ++ 0 ∷ []) ∷ take 191 plan ∷ []) ≡ false ∷ false ∷ false ∷ []
-unfolding every recordCount bytesOf nextOf firstInterfaceOf chain sizeSound nextSound areZero zerosSound isNoStation interfaceSound stationSound headSound soundWithin
-sizes = refl
+unsound = refl
 
 -- 2,048 records may be sound, 2,049 are not
 most : (itinerary : List ℕ) → length itinerary ≡ 65536 → sizeSound narrow itinerary ≡ true
@@ -95,17 +106,35 @@ too-many : (itinerary : List ℕ) → length itinerary ≡ 65568 → itinerarySo
 unfolding recordCount sizeSound soundWithin
 too-many itinerary e = rw e
 
--- ---- question 23
+-- ---- question 23, for two stations
 
-fits : alike (fitsWith 2) true ([] ∷ ((2, 5, 0) ∷ []) ∷ ((1, 5, 0) ∷ []) ∷ ((3, 4, 0) ∷ []) ∷ [])
+abbrev fittingOnes : List (List ℕ)
+fittingOnes =
+    plan
+    -- no table, and an interface that is down
+    ∷ changed ((2, 5, 0) ∷ [])
+    ∷ changed ((3, 4, 0) ∷ [])
+    ∷ []
+
+fits : AllAnswer (λ itinerary. itineraryFits narrow itinerary 2) true fittingOnes
 unfolding every recordCount bytesOf nextOf firstInterfaceOf chain sizeSound nextSound areZero zerosSound isNoStation interfaceSound stationSound headSound soundWithin arrivalOf interfaceNumberOf interfaceStateOf stationWithin stationsWithin tablesSound arrivalsFit fitsWithin idsAscending statesSound tableSound
 fits = refl
 
--- another count, an unsound itinerary, a first arrival, a later one that is 0, a state of 8, equal numbers
-fits-not : map (λ wanted. fitsWith wanted []) (0 ∷ 1 ∷ 3 ∷ []) ≡ false ∷ false ∷ false ∷ []
-unfolding every recordCount bytesOf nextOf firstInterfaceOf chain sizeSound nextSound areZero zerosSound isNoStation interfaceSound stationSound headSound soundWithin arrivalOf interfaceNumberOf interfaceStateOf stationWithin stationsWithin tablesSound arrivalsFit fitsWithin idsAscending statesSound tableSound
-fits-not = refl
+abbrev unfitOnes : List (List ℕ)
+unfitOnes =
+    -- unsound
+    changed ((0, 2, 1) ∷ [])
+    -- one station, three stations
+    ∷ changed ((1, 1, 0) ∷ [])
+    ∷ changed ((2, 1, 5) ∷ (5, 1, 0) ∷ (5, 3, 1) ∷ (5, 5, 0) ∷ (5, 6, 0) ∷ [])
+    -- a first arrival, a later one that is 0
+    ∷ changed ((1, 3, 7) ∷ [])
+    ∷ changed ((2, 3, 0) ∷ [])
+    -- a state of 8, equal numbers
+    ∷ changed ((3, 4, 8) ∷ [])
+    ∷ changed ((4, 3, 7) ∷ [])
+    ∷ []
 
-fits-not-with : alike (fitsWith 2) false (((0, 2, 1) ∷ []) ∷ ((1, 3, 7) ∷ []) ∷ ((2, 3, 0) ∷ []) ∷ ((3, 4, 8) ∷ []) ∷ ((4, 3, 7) ∷ []) ∷ [])
+unfit : AllAnswer (λ itinerary. itineraryFits narrow itinerary 2) false unfitOnes
 unfolding every recordCount bytesOf nextOf firstInterfaceOf chain sizeSound nextSound areZero zerosSound isNoStation interfaceSound stationSound headSound soundWithin arrivalOf interfaceNumberOf interfaceStateOf stationWithin stationsWithin tablesSound arrivalsFit fitsWithin idsAscending statesSound tableSound
-fits-not-with = refl
+unfit = refl

@@ -1,3 +1,4 @@
+pub mod Every
 pub mod Walks
 pub mod Stations
 pub mod Bound

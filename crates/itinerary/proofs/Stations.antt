@@ -1,34 +1,35 @@
 -- What is asked of the stations, asked of their records.
 -- Assumes nothing.
-use mathlib.Core.Path.{_≡_, refl}
-use mathlib.Core.Bool.{Bool, true, not, _&&_}
+use mathlib.Core.Path.{_≡_, refl, sym, _∙_}
+use mathlib.Core.Bool.{Bool, true, false, cond, not, _&&_}
 use mathlib.Core.List.{List, [], _∷_, map}
-use Prim.Native.Nat.{ℕ, _+_, _-_, _<_}
+use Prim.Native.Nat.{ℕ, zero, suc, _+_, _-_, _<_}
 use native.Mathlib.Omega.{arith}
+use borrow.Author.Tests.{eq-eqb, ne-eqb}
 use lib.Dec.{eqb}
-use lib.ListN.{length, length-map}
+use lib.ListN.{length, getD, length-map}
 use Rattle.interface_table.specs.Table.{tableSound}
 use Rattle.itinerary.specs.Layout.{Layout}
-use Rattle.itinerary.specs.Records.{every, nextOf, arrivalOf, interfaceNumberOf, interfaceStateOf, firstStation, chain}
-use Rattle.itinerary.specs.Itinerary.{stationRecords, tableRecords, stationWithin, stationsWithin, tablesSound, arrivalsFit}
+use Rattle.itinerary.specs.Records.{every, nextOf, arrivalOf, firstStation, chain}
+use Rattle.itinerary.specs.Itinerary.{Station, stationRecords, stationWithin, stationsWithin, tablesSound, arrivalsFit}
+use Rattle.itinerary.proofs.Every.{every-map}
 use Rattle.itinerary.proofs.Walks.{chain-end, chain-on}
 
-pub every-map : {A B : Type 0} (holds : B → Bool) (f : A → B) (xs : List A) → every holds (map f xs) ≡ every (λ x. holds (f x)) xs
-unfolding every
-every-map holds f [] = refl
-every-map holds f (x ∷ xs) = rw (every-map holds f xs)
+getD-map : {B : Type 0} (f : ℕ → B) (xs : List ℕ) (place : ℕ) (none : B) → place < length xs
+    → getD (map f xs) place none ≡ f (getD xs place 0)
+getD-map f [] place none h = absurd (omega arith)
+getD-map f (x ∷ xs) zero none h = refl
+getD-map f (x ∷ xs) (suc place) none h = getD-map f xs place none (omega arith)
 
 module _ (layout : Layout) (itinerary : List ℕ) where
-  -- the table of the station with a record is sound
   abbrev pub hasSoundTable : ℕ → ℕ → Bool
   hasSoundTable tableLimit station =
-      tableSound (map (interfaceNumberOf layout itinerary) (tableRecords layout itinerary tableLimit station))
-      (map (interfaceStateOf layout itinerary) (tableRecords layout itinerary tableLimit station))
+      tableSound (stationWithin layout itinerary tableLimit station .ids) (stationWithin layout itinerary tableLimit station .states)
 
   module _ (stationLimit tableLimit : ℕ) where
     pub tables-by-records : tablesSound (stationsWithin layout itinerary stationLimit tableLimit)
         ≡ every (hasSoundTable tableLimit) (stationRecords layout itinerary stationLimit)
-    unfolding tablesSound stationsWithin stationWithin
+    unfolding tablesSound stationsWithin
     tables-by-records = every-map _ (stationWithin layout itinerary tableLimit) (stationRecords layout itinerary stationLimit)
 
     pub count-by-records : length (stationsWithin layout itinerary stationLimit tableLimit)
@@ -37,21 +38,71 @@ module _ (layout : Layout) (itinerary : List ℕ) where
     count-by-records = length-map (stationRecords layout itinerary stationLimit) (stationWithin layout itinerary tableLimit)
 
   module _ (later tableLimit : ℕ) {first : ℕ} (e : first ≡ firstStation layout itinerary) where
-    pub no-arrivals : first ≡ 0 → true ≡ arrivalsFit (stationsWithin layout itinerary (later + 1) tableLimit)
+    pub none-arrives : first ≡ 0 → true ≡ arrivalsFit (stationsWithin layout itinerary (later + 1) tableLimit)
     unfolding stationsWithin arrivalsFit
-    no-arrivals z = rw (← e, chain-end layout itinerary (later + 1) first z)
+    none-arrives z = rw (← e, chain-end layout itinerary (later + 1) first z)
 
-    pub arrivals-by-records : (first ≡ 0 → ⊥) → arrivalsFit (stationsWithin layout itinerary (later + 1) tableLimit)
-        ≡ (eqb (arrivalOf layout itinerary first) 0
-        && every (λ station. not (eqb (arrivalOf layout itinerary station) 0)) (chain layout itinerary later (nextOf layout itinerary first)))
-    unfolding stationsWithin stationWithin arrivalsFit
-    arrivals-by-records n =
-        let more : 0 < later + 1 = omega arith in
-        let rest : later + 1 - 1 ≡ later = omega arith in
-        rw (
-          ← e,
-          chain-on layout itinerary (later + 1) first _ more n refl,
-          rest,
-          every-map (λ station. not (eqb (station .arrival) 0)) (stationWithin layout itinerary tableLimit)
-              (chain layout itinerary later (nextOf layout itinerary first)),
-        )
+    module _ (here : first ≡ 0 → ⊥) {arrival : ℕ} (d : arrival ≡ arrivalOf layout itinerary first) where
+      by-records : arrivalsFit (stationsWithin layout itinerary (later + 1) tableLimit)
+          ≡ (eqb arrival 0 && every (λ station. not (eqb (arrivalOf layout itinerary station) 0))
+          (chain layout itinerary later (nextOf layout itinerary first)))
+      unfolding stationsWithin stationWithin arrivalsFit
+      by-records =
+          let rest : later + 1 - 1 ≡ later = omega arith in
+          rw (
+            d,
+            ← e,
+            chain-on layout itinerary (later + 1) first _ (omega arith) here refl,
+            rest,
+            every-map (λ station. not (eqb (station .arrival) 0)) (stationWithin layout itinerary tableLimit)
+                (chain layout itinerary later (nextOf layout itinerary first)),
+          )
+
+      pub first-arrives : (arrival ≡ 0 → ⊥) → false ≡ arrivalsFit (stationsWithin layout itinerary (later + 1) tableLimit)
+      first-arrives n = sym (by-records ∙ rw (ne-eqb _ 0 n))
+
+      pub later-arrive : arrival ≡ 0 → {next : ℕ} → next ≡ nextOf layout itinerary first → {answer : Bool}
+          → answer ≡ every (λ station. not (eqb (arrivalOf layout itinerary station) 0)) (chain layout itinerary later next)
+          → answer ≡ arrivalsFit (stationsWithin layout itinerary (later + 1) tableLimit)
+      later-arrive z q a = a ∙ sym (by-records ∙ rw (eq-eqb _ 0 z, q))
+
+  -- ---- a station by its place
+
+  abbrev after : ℕ → ℕ → List ℕ
+  after limit index = chain layout itinerary limit (nextOf layout itinerary index)
+
+  first-record : (limit index : ℕ) → 0 < length (chain layout itinerary limit index) → getD (chain layout itinerary limit index) 0 0 ≡ index
+  unfolding chain
+  first-record zero index h = absurd (omega arith)
+  first-record (suc limit) index h = go (eqb index 0) h
+    where
+      go : (b : Bool) → 0 < length (cond b [] (index ∷ after limit index)) → getD (cond b [] (index ∷ after limit index)) 0 0 ≡ index
+      go true h = absurd (omega arith)
+      go false h = refl
+
+  -- the next station is the next record
+  pub next-record : (limit index place : ℕ) → suc place < length (chain layout itinerary limit index)
+      → getD (chain layout itinerary limit index) (suc place) 0
+      ≡ nextOf layout itinerary (getD (chain layout itinerary limit index) place 0)
+  unfolding chain
+  next-record zero index place h = absurd (omega arith)
+  next-record (suc limit) index place h = go (eqb index 0) place (next-record limit (nextOf layout itinerary index)) h
+    where
+      go : (b : Bool) (place : ℕ)
+          → ((place : ℕ) → suc place < length (after limit index)
+          → getD (after limit index) (suc place) 0 ≡ nextOf layout itinerary (getD (after limit index) place 0))
+          → suc place < length (cond b [] (index ∷ after limit index))
+          → getD (cond b [] (index ∷ after limit index)) (suc place) 0
+          ≡ nextOf layout itinerary (getD (cond b [] (index ∷ after limit index)) place 0)
+      go true place rest h = absurd (omega arith)
+      go false zero rest h = first-record limit (nextOf layout itinerary index) (omega arith)
+      go false (suc place) rest h = rest place (omega arith)
+
+  -- a station is read from its record
+  pub station-from-record : (stationLimit tableLimit place : ℕ) (none : Station)
+      → place < length (stationRecords layout itinerary stationLimit)
+      → getD (stationsWithin layout itinerary stationLimit tableLimit) place none
+      ≡ stationWithin layout itinerary tableLimit (getD (stationRecords layout itinerary stationLimit) place 0)
+  unfolding stationsWithin
+  station-from-record stationLimit tableLimit place none h =
+      getD-map (stationWithin layout itinerary tableLimit) (stationRecords layout itinerary stationLimit) place none h

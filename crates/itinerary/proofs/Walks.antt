@@ -2,12 +2,12 @@
 -- at `index`; `limit` and `first` are where it began.
 -- Assumes nothing.
 use mathlib.Core.Path.{_≡_, refl, ap, sym, _∙_}
-use mathlib.Core.Bool.{Bool, true, false, _&&_, and-false}
+use mathlib.Core.Bool.{Bool, true, false, not, _&&_, and-false}
 use mathlib.Core.List.{List, [], _∷_, map}
 use Prim.Native.Nat.{ℕ, zero, suc, _+_, _-_, _≤_, _<_}
 use native.Mathlib.Numerals.{add-one}
 use native.Mathlib.Omega.{arith}
-use borrow.Author.Tests.{eq-eqb, ne-eqb, lt-ltb, le-ltb, le-leb, lt-leb}
+use borrow.Author.Tests.{not-true, not-false, eq-eqb, ne-eqb, lt-ltb, le-ltb, le-leb, lt-leb}
 use lib.Dec.{eqb, leb}
 use lib.ListN.{length, getD, length-map}
 use Rattle.octets.specs.Bytes.{tabulate}
@@ -55,10 +55,19 @@ module _ {layout : Layout} {itinerary : List ℕ} {holds : ℕ → Bool} {limit 
   unfolding every
   asked-no h n e = sym (asked .rest ∙ rw (chain-on layout itinerary left index _ h n refl, e))
 
-  pub asked-on : {next : ℕ} → 0 < left → (index ≡ 0 → ⊥) → holds index ≡ true → next ≡ nextOf layout itinerary index
+  pub asked-yes : {next : ℕ} → 0 < left → (index ≡ 0 → ⊥) → holds index ≡ true → next ≡ nextOf layout itinerary index
       → Asked layout itinerary holds limit first (left - 1) next
   unfolding every
-  asked-on {next} h n e q = record { rest = asked .rest ∙ rw (chain-on layout itinerary left index next h n q, e) }
+  asked-yes {next} h n e q = record { rest = asked .rest ∙ rw (chain-on layout itinerary left index next h n q, e) }
+
+  -- the answer of a call
+  module _ {answer : Bool} (more : 0 < left) (here : index ≡ 0 → ⊥) (e : answer ≡ holds index) where
+    pub answered-no : not answer ≡ true → false ≡ every holds (chain layout itinerary limit first)
+    answered-no h = asked-no more here (sym e ∙ not-true answer h)
+
+    pub answered-yes : {next : ℕ} → not answer ≡ false → next ≡ nextOf layout itinerary index
+        → Asked layout itinerary holds limit first (left - 1) next
+    answered-yes h q = asked-yes more here (sym e ∙ not-false answer h) q
 
 -- ---- the records of a chain are counted
 

@@ -8,9 +8,9 @@ use crate::layout::StationLayout;
 use crate::record;
 ghost use mathlib.Core.Path.{_≡_};
 ghost use Rattle.itinerary.specs.Layout.{narrow};
-ghost use Rattle.itinerary.specs.Records.{every, chain};
-ghost use Rattle.itinerary.specs.Itinerary.{stationRecords, sizeSound, indexSound, nextSound, areZero, zerosSound, isNoStation};
-ghost use Rattle.itinerary.specs.Itinerary.{interfaceSound, stationSound, headSound, soundWithin};
+ghost use Rattle.itinerary.specs.Records.{every};
+ghost use Rattle.itinerary.specs.Itinerary.{stationRecords, tableRecords, sizeSound, indexSound, nextSound, areZero};
+ghost use Rattle.itinerary.specs.Itinerary.{zerosSound, isNoStation, interfaceSound, stationSound, headSound, soundWithin};
 
 fn is_size_sound(itinerary: &[u8]) -> bool
     ensures { λ r. ⌜ r ≡ sizeSound narrow (now (itinerary .entry)) ⌝ }
@@ -87,11 +87,16 @@ fn is_interface_sound(itinerary: &[u8], station_limit: u32, index: u32) -> bool
         & is_no_station(itinerary, station_limit, index)
 }
 
-fn are_interfaces_sound(itinerary: &[u8], station_limit: u32, table_limit: u32, first: u32) -> bool
+fn are_interfaces_sound(
+    itinerary: &[u8],
+    station_limit: u32,
+    table_limit: u32,
+    station: u32,
+) -> bool
     ensures { λ r. ⌜ r ≡ every (interfaceSound narrow (now (itinerary .entry)) «station_limit»)
-        (chain narrow (now (itinerary .entry)) «table_limit» first) ⌝ }
+        (tableRecords narrow (now (itinerary .entry)) «table_limit» station) ⌝ }
 {
-    let mut index = first;
+    let mut index = record::first_interface(itinerary, station);
     let mut left = table_limit;
     while 0 < left {
         if index == 0 {
@@ -128,11 +133,10 @@ fn are_station_zeros_sound(itinerary: &[u8], index: u32) -> bool
 fn is_station_sound(itinerary: &[u8], station_limit: u32, table_limit: u32, index: u32) -> bool
     ensures { λ r. ⌜ r ≡ stationSound narrow (now (itinerary .entry)) «station_limit» «table_limit» index ⌝ }
 {
-    let first = record::first_interface(itinerary, index);
     is_next_sound(itinerary, index)
         & are_station_zeros_sound(itinerary, index)
-        & is_index_sound(itinerary, first)
-        & are_interfaces_sound(itinerary, station_limit, table_limit, first)
+        & is_index_sound(itinerary, record::first_interface(itinerary, index))
+        & are_interfaces_sound(itinerary, station_limit, table_limit, index)
 }
 
 fn are_stations_sound(itinerary: &[u8], station_limit: u32, table_limit: u32) -> bool

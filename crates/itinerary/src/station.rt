@@ -5,25 +5,24 @@ use interface_table::Listed;
 ghost use mathlib.Core.Path.{_≡_};
 ghost use Prim.Native.Nat.{_+_};
 ghost use mathlib.Core.Bool.{not};
-ghost use mathlib.Core.List.{map};
 ghost use lib.Dec.{eqb};
 ghost use lib.ListN.{length, getD};
 ghost use Rattle.interface_table.specs.Table.{tableSound, stateOf};
 ghost use Rattle.itinerary.specs.Layout.{narrow};
-ghost use Rattle.itinerary.specs.Records.{every, recordCount, arrivalOf, interfaceNumberOf, interfaceStateOf, chain};
-ghost use Rattle.itinerary.specs.Itinerary.{stationRecords, stationsWithin, stationAt, tablesSound, arrivalsFit, itineraryFits};
+ghost use Rattle.itinerary.specs.Records.{every, recordCount, arrivalOf, chain};
+ghost use Rattle.itinerary.specs.Itinerary.{stationRecords, stationWithin, stationsWithin, stationAt};
+ghost use Rattle.itinerary.specs.Itinerary.{tablesSound, arrivalsFit, itineraryFits};
 
 // One record more than a sound table has.
 const TABLE_LIMIT: u32 = 257;
 
 // ---- do they fit?
 
-fn is_table_sound(itinerary: &[u8], first: u32) -> bool
-    ensures { λ r. ⌜ r ≡ tableSound
-        (map (interfaceNumberOf narrow (now (itinerary .entry))) (chain narrow (now (itinerary .entry)) 257 first))
-        (map (interfaceStateOf narrow (now (itinerary .entry))) (chain narrow (now (itinerary .entry)) 257 first)) ⌝ }
+fn is_table_sound(itinerary: &[u8], station: u32) -> bool
+    ensures { λ r. ⌜ r ≡ tableSound (stationWithin narrow (now (itinerary .entry)) 257 station .ids)
+        (stationWithin narrow (now (itinerary .entry)) 257 station .states) ⌝ }
 {
-    let mut index = first;
+    let mut index = record::first_interface(itinerary, station);
     let mut left = TABLE_LIMIT;
     let mut lowest: u32 = 0;
     while 0 < left {
@@ -53,7 +52,7 @@ fn are_tables_sound(itinerary: &[u8], station_limit: u32) -> bool
         if station == 0 {
             return true;
         }
-        if !is_table_sound(itinerary, record::first_interface(itinerary, station)) {
+        if !is_table_sound(itinerary, station) {
             return false;
         }
         station = record::next(itinerary, station);

@@ -20,7 +20,10 @@ loop-holds c = filled-none 0 refl
 
 loop-again : tie.Need-loop-again Inv-loop μ-loop
 unfolding keyOf bytesOf
-loop-again c = tabulated-more 16 (λ j. getD (c .before .before .before .before .before .args .itinerary .now) (offset narrow (c .before .before .before .before .before .args .station) 8 + j) 0) _ (rw (← c .before .before .before .offset .ensures) (c .byte-at .ensures)) (c .before .loop-test .taken) (c .before .before .loop .inv)
+loop-again c =
+    let args = c .before .before .before .before .before .args in
+    tabulated-more 16 (λ i. getD (args .itinerary .now) (offset narrow (args .station) 8 + i) 0) _
+    (rw (← c .before .before .before .offset .ensures) (c .byte-at .ensures)) (c .before .loop-test .taken) (c .before .before .loop .inv)
 
 returns : tie.Need-returns Inv-loop μ-loop
 unfolding keyOf bytesOf

@@ -1,30 +1,36 @@
 use borrow.Author.Needs.{needs}
-use mathlib.Core.Path.{refl, sym, _∙_}
 use native.Mathlib.Omega.{arith}
-use borrow.Author.Tests.{not-true, not-false}
 use Rattle.itinerary.specs.Layout.{narrow}
+use Rattle.itinerary.specs.Records.{firstInterfaceOf}
 use Rattle.itinerary.specs.Itinerary.{interfaceSound}
-use Rattle.itinerary.proofs.Walks.{Asked, asked-end, asked-out, asked-no, asked-on}
+use Rattle.itinerary.proofs.Walks.{Asked, asked-end, asked-out, answered-no, answered-yes}
 use Rattle.itinerary.proofs.sound.are_interfaces_sound.Statement.{statement}
 use Rattle.itinerary.proofs.sound.are_interfaces_sound.Tie as tie
 
 abbrev Inv-loop : tie.InvT-loop
-Inv-loop itinerary station-limit table-limit first index₀ left₀ index left = Asked narrow itinerary (interfaceSound narrow itinerary station-limit) table-limit first left index
+Inv-loop itinerary station-limit table-limit station index₀ left₀ index left =
+    Asked narrow itinerary (interfaceSound narrow itinerary station-limit) table-limit
+    (firstInterfaceOf narrow itinerary station) left index
 
 abbrev μ-loop : tie.MeasureT-loop
-μ-loop itinerary station-limit table-limit first index₀ left₀ index left = left
+μ-loop itinerary station-limit table-limit station index₀ left₀ index left = left
 
 loop-holds : tie.Need-loop-holds Inv-loop μ-loop
-loop-holds c = record { rest = refl }
+loop-holds c = record { rest = rw (← c .first-interface .ensures) }
 
 returns : tie.Need-returns Inv-loop μ-loop
 returns c = asked-end (c .before .before .loop .inv) (c .if1 .taken)
 
 returns-2 : tie.Need-returns-2 Inv-loop μ-loop
-returns-2 c = asked-no (c .before .before .before .before .loop .inv) (search needs) (c .before .before .if1 .left) (sym (c .before .is-interface-sound .ensures) ∙ not-true (c .before .is-interface-sound .result) (c .if2 .taken))
+returns-2 c =
+    answered-no (c .before .before .before .before .loop .inv) (search needs) (c .before .before .if1 .left)
+    (c .before .is-interface-sound .ensures) (c .if2 .taken)
 
 loop-again : tie.Need-loop-again Inv-loop μ-loop
-loop-again c = asked-on (c .before .before .before .before .before .loop .inv) (search needs) (c .before .before .before .if1 .left) (sym (c .before .before .is-interface-sound .ensures) ∙ not-false (c .before .before .is-interface-sound .result) (c .before .if2 .left)) (c .next .ensures)
+loop-again c =
+    let sound = c .before .before .is-interface-sound .ensures in
+    answered-yes (c .before .before .before .before .before .loop .inv) (search needs) (c .before .before .before .if1 .left) sound
+    (c .before .if2 .left) (c .next .ensures)
 
 returns-3 : tie.Need-returns-3 Inv-loop μ-loop
 returns-3 c = asked-out (c .before .loop .inv) (omega arith)
@@ -35,6 +41,7 @@ are-interfaces-sound-spec =
     (tie.spec
     Inv-loop
     μ-loop
+    (λ c κs. search needs)
     loop-holds
     returns
     (λ c κs. search needs)

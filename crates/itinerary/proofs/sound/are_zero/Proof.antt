@@ -16,14 +16,22 @@ abbrev μ-loop : tie.MeasureT-loop
 μ-loop itinerary index field count at i₀ i = count - i
 
 loop-holds : tie.Need-loop-holds Inv-loop μ-loop
-loop-holds c = zero-none (c .before .before .args .itinerary .now) (offset narrow (c .before .before .args .index) (c .before .before .args .field)) (c .before .before .args .count)
+loop-holds c =
+    zero-none (c .before .before .args .itinerary .now) (offset narrow (c .before .before .args .index) (c .before .before .args .field))
+    (c .before .before .args .count)
 
 returns : tie.Need-returns Inv-loop μ-loop
 unfolding areZero bytesOf
-returns c = zero-no (c .before .before .before .loop .inv) (search needs) (λ e. c .if1 .taken (c .before .byte-at .ensures ∙ rw (c .before .before .before .before .offset .ensures) e))
+returns c =
+    let byte = c .before .byte-at .ensures in
+    zero-no (c .before .before .before .loop .inv) (search needs)
+    (λ e. c .if1 .taken (byte ∙ rw (c .before .before .before .before .offset .ensures) e))
 
 loop-again : tie.Need-loop-again Inv-loop μ-loop
-loop-again c = zero-more (c .before .before .before .loop .inv) (search needs) (rw (← c .before .before .before .before .offset .ensures) (sym (c .before .byte-at .ensures) ∙ c .if1 .left))
+loop-again c =
+    let byte = c .before .byte-at .ensures in
+    zero-more (c .before .before .before .loop .inv) (search needs)
+    (rw (← c .before .before .before .before .offset .ensures) (sym byte ∙ c .if1 .left))
 
 returns-2 : tie.Need-returns-2 Inv-loop μ-loop
 unfolding areZero bytesOf

@@ -1,19 +1,28 @@
 use borrow.Author.Needs.{needs}
-use mathlib.Core.Path.{sym, _∙_}
-use borrow.Author.Tests.{eq-eqb, ne-eqb}
 use Rattle.itinerary.specs.Layout.{narrow}
-use Rattle.itinerary.proofs.Stations.{no-arrivals, arrivals-by-records}
+use Rattle.itinerary.proofs.Stations.{none-arrives, first-arrives, later-arrive}
 use Rattle.itinerary.proofs.station.arrivals_fit.Statement.{statement}
 use Rattle.itinerary.proofs.station.arrivals_fit.Tie as tie
 
 returns : tie.Need-returns
-returns c = no-arrivals narrow (c .before .before .before .args .itinerary .now) (c .before .before .before .args .later) 257 (c .before .next .ensures) (c .if1 .taken)
+returns c =
+    let args = c .before .before .before .args in
+    none-arrives narrow (args .itinerary .now) (args .later) 257 (c .before .next .ensures) (c .if1 .taken)
 
 returns-2 : tie.Need-returns-2
-returns-2 c = sym (arrivals-by-records narrow (c .before .before .before .before .before .args .itinerary .now) (c .before .before .before .before .before .args .later) 257 (c .before .before .before .next .ensures) (c .before .before .if1 .left) ∙ rw (← c .before .arrival .ensures, ne-eqb _ _ (c .if2 .taken)))
+returns-2 c =
+    let args = c .before .before .before .before .before .args in
+    let first = first-arrives narrow (args .itinerary .now) (args .later) 257 (c .before .before .before .next .ensures)
+    (c .before .before .if1 .left) in
+    first (c .before .arrival .ensures) (c .if2 .taken)
 
 returns-3 : tie.Need-returns-3
-returns-3 c = c .later-arrivals-fit .ensures ∙ sym (arrivals-by-records narrow (c .before .before .before .before .before .before .before .args .itinerary .now) (c .before .before .before .before .before .before .before .args .later) 257 (c .before .before .before .before .before .next .ensures) (c .before .before .before .before .if1 .left) ∙ rw (← c .before .before .before .arrival .ensures, eq-eqb _ _ (c .before .before .if2 .left), ← c .before .next2 .ensures))
+returns-3 c =
+    let args = c .before .before .before .before .before .before .before .args in
+    later-arrive narrow (args .itinerary .now) (args .later) 257 (c .before .before .before .before .before .next .ensures)
+    (c .before .before .before .before .if1 .left)
+    (c .before .before .before .arrival .ensures) (c .before .before .if2 .left) (c .before .next2 .ensures)
+    (c .later-arrivals-fit .ensures)
 
 pub arrivals-fit-spec : {M : Type 1} → statement M
 arrivals-fit-spec =

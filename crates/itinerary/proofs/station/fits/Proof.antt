@@ -5,7 +5,9 @@ use Rattle.itinerary.proofs.station.fits.Statement.{statement}
 use Rattle.itinerary.proofs.station.fits.Tie as tie
 
 returns : tie.Need-returns
-returns c = rw (← fits-asked narrow (c .before .before .before .before .before .args .itinerary .now) (c .before .before .before .before .before .args .wanted)) (cc)
+returns c =
+    let args = c .before .before .before .before .before .args in
+    rw (← fits-asked narrow (args .itinerary .now) (args .wanted)) (cc)
 
 pub fits-spec : {M : Type 1} → statement M
 fits-spec =

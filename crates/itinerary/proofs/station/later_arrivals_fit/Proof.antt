@@ -6,12 +6,13 @@ use lib.Dec.{eqb}
 use borrow.Author.Tests.{eq-eqb, ne-eqb}
 use Rattle.itinerary.specs.Layout.{narrow}
 use Rattle.itinerary.specs.Records.{arrivalOf}
-use Rattle.itinerary.proofs.Walks.{Asked, asked-end, asked-out, asked-no, asked-on}
+use Rattle.itinerary.proofs.Walks.{Asked, asked-end, asked-out, asked-no, asked-yes}
 use Rattle.itinerary.proofs.station.later_arrivals_fit.Statement.{statement}
 use Rattle.itinerary.proofs.station.later_arrivals_fit.Tie as tie
 
 abbrev Inv-loop : tie.InvT-loop
-Inv-loop itinerary second limit station₀ left₀ station left = Asked narrow itinerary (λ i. not (eqb (arrivalOf narrow itinerary i) 0)) limit second left station
+Inv-loop itinerary second limit station₀ left₀ station left =
+    Asked narrow itinerary (λ i. not (eqb (arrivalOf narrow itinerary i) 0)) limit second left station
 
 abbrev μ-loop : tie.MeasureT-loop
 μ-loop itinerary second limit station₀ left₀ station left = left
@@ -23,10 +24,15 @@ returns : tie.Need-returns Inv-loop μ-loop
 returns c = asked-end (c .before .before .loop .inv) (c .if1 .taken)
 
 returns-2 : tie.Need-returns-2 Inv-loop μ-loop
-returns-2 c = asked-no (c .before .before .before .before .loop .inv) (search needs) (c .before .before .if1 .left) (rw (eq-eqb _ _ (sym (c .before .arrival .ensures) ∙ c .if2 .taken)))
+returns-2 c =
+    let none = sym (c .before .arrival .ensures) ∙ c .if2 .taken in
+    asked-no (c .before .before .before .before .loop .inv) (search needs) (c .before .before .if1 .left) (rw (eq-eqb _ 0 none))
 
 loop-again : tie.Need-loop-again Inv-loop μ-loop
-loop-again c = asked-on (c .before .before .before .before .before .loop .inv) (search needs) (c .before .before .before .if1 .left) (rw (ne-eqb _ _ (λ e. c .before .if2 .left (c .before .before .arrival .ensures ∙ e)))) (c .next .ensures)
+loop-again c =
+    let arrival = c .before .before .arrival .ensures in
+    asked-yes (c .before .before .before .before .before .loop .inv) (search needs) (c .before .before .before .if1 .left)
+    (rw (← arrival, ne-eqb _ 0 (c .before .if2 .left))) (c .next .ensures)
 
 returns-3 : tie.Need-returns-3 Inv-loop μ-loop
 returns-3 c = asked-out (c .before .loop .inv) (omega arith)

@@ -9,7 +9,8 @@ use Rattle.itinerary.proofs.station.lookup.Statement.{statement}
 use Rattle.itinerary.proofs.station.lookup.Tie as tie
 
 abbrev Inv-loop : tie.InvT-loop
-Inv-loop itinerary station number index₀ left₀ index left = Sought narrow itinerary number (recordCount narrow itinerary) (firstInterfaceOf narrow itinerary station) left index
+Inv-loop itinerary station number index₀ left₀ index left =
+    Sought narrow itinerary number (recordCount narrow itinerary) (firstInterfaceOf narrow itinerary station) left index
 
 abbrev μ-loop : tie.MeasureT-loop
 μ-loop itinerary station number index₀ left₀ index left = left
@@ -23,10 +24,16 @@ returns c = sought-end (c .before .before .loop .inv) (c .if1 .taken)
 
 returns-2 : tie.Need-returns-2 Inv-loop μ-loop
 unfolding stationWithin
-returns-2 c = rw (c .interface-state .ensures) (sought-here (c .before .before .before .before .before .loop .inv) (search needs) (c .before .before .before .if1 .left) (sym (c .before .before .interface-number .ensures) ∙ c .before .if2 .taken))
+returns-2 c =
+    let same = sym (c .before .before .interface-number .ensures) ∙ c .before .if2 .taken in
+    rw (c .interface-state .ensures)
+    (sought-here (c .before .before .before .before .before .loop .inv) (search needs) (c .before .before .before .if1 .left) same)
 
 loop-again : tie.Need-loop-again Inv-loop μ-loop
-loop-again c = sought-on (c .before .before .before .before .before .loop .inv) (search needs) (c .before .before .before .if1 .left) (λ e. c .before .if2 .left (c .before .before .interface-number .ensures ∙ e)) (c .next .ensures)
+loop-again c =
+    let number = c .before .before .interface-number .ensures in
+    sought-on (c .before .before .before .before .before .loop .inv) (search needs) (c .before .before .before .if1 .left)
+    (λ e. c .before .if2 .left (number ∙ e)) (c .next .ensures)
 
 returns-3 : tie.Need-returns-3 Inv-loop μ-loop
 unfolding stationWithin

@@ -3,13 +3,14 @@ use Prim.Native.Nat.{_≤_}
 use mathlib.Core.Path.{sym}
 use native.Mathlib.Omega.{arith}
 use Rattle.itinerary.specs.Layout.{narrow}
-use Rattle.itinerary.specs.Records.{nextOf}
+use Rattle.itinerary.specs.Records.{firstStation}
 use Rattle.itinerary.proofs.Walks.{Counted, counted-end, counted-out, counted-on}
 use Rattle.itinerary.proofs.station.station_count.Statement.{statement}
 use Rattle.itinerary.proofs.station.station_count.Tie as tie
 
 abbrev Inv-loop : tie.InvT-loop
-Inv-loop itinerary station-limit station₀ left₀ station left = (left ≤ station-limit) × Counted narrow itinerary station-limit (nextOf narrow itinerary 0) left station
+Inv-loop itinerary station-limit station₀ left₀ station left =
+    (left ≤ station-limit) × Counted narrow itinerary station-limit (firstStation narrow itinerary) left station
 
 abbrev μ-loop : tie.MeasureT-loop
 μ-loop itinerary station-limit station₀ left₀ station left = left
@@ -21,7 +22,8 @@ returns : tie.Need-returns Inv-loop μ-loop
 returns c = let e = counted-end (c .before .before .loop .inv .1) (c .if1 .taken) in omega arith
 
 loop-again : tie.Need-loop-again Inv-loop μ-loop
-loop-again c = (search needs, counted-on (c .before .before .before .loop .inv .1) (search needs) (c .before .if1 .left) (c .next2 .ensures))
+loop-again c =
+    (search needs, counted-on (c .before .before .before .loop .inv .1) (search needs) (c .before .if1 .left) (c .next2 .ensures))
 
 returns-2 : tie.Need-returns-2 Inv-loop μ-loop
 returns-2 c = sym (counted-out (c .before .loop .inv .1) (omega arith))

@@ -3,19 +3,22 @@ use Prim.Native.Nat.{_-_}
 use mathlib.Core.Path.{_≡_}
 use native.Mathlib.Omega.{arith}
 use Rattle.itinerary.specs.Layout.{narrow}
-use Rattle.itinerary.specs.Records.{recordCount, nextOf}
+use Rattle.itinerary.specs.Records.{recordCount, firstStation}
 use Rattle.itinerary.proofs.Walks.{Passed, passed-end, passed-out, passed-here, passed-on}
 use Rattle.itinerary.proofs.station.station_record.Statement.{statement}
 use Rattle.itinerary.proofs.station.station_record.Tie as tie
 
 abbrev Inv-loop : tie.InvT-loop
-Inv-loop itinerary place station₀ left₀ passed₀ station left passed = Passed narrow itinerary place (recordCount narrow itinerary) (nextOf narrow itinerary 0) passed left station
+Inv-loop itinerary place station₀ left₀ passed₀ station left passed =
+    Passed narrow itinerary place (recordCount narrow itinerary) (firstStation narrow itinerary) passed left station
 
 abbrev μ-loop : tie.MeasureT-loop
 μ-loop itinerary place station₀ left₀ passed₀ station left passed = left
 
 loop-holds : tie.Need-loop-holds Inv-loop μ-loop
-loop-holds c = let e : c .before .before .before .args .place - 0 ≡ c .before .before .before .args .place = omega arith in record { fewer = omega arith; rest = rw (← c .before .next .ensures, ← c .record-count .ensures, e) }
+loop-holds c =
+    let e : c .before .before .before .args .place - 0 ≡ c .before .before .before .args .place = omega arith in
+    record { fewer = omega arith; rest = rw (← c .before .next .ensures, ← c .record-count .ensures, e) }
 
 returns : tie.Need-returns Inv-loop μ-loop
 returns c = passed-end (c .before .before .loop .inv) (c .if1 .taken)
@@ -24,7 +27,9 @@ returns-2 : tie.Need-returns-2 Inv-loop μ-loop
 returns-2 c = passed-here (c .before .before .before .loop .inv) (search needs) (c .before .if1 .left) (c .if2 .taken)
 
 loop-again : tie.Need-loop-again Inv-loop μ-loop
-loop-again c = passed-on (c .before .before .before .before .loop .inv) (search needs) (c .before .before .if1 .left) (c .before .if2 .left) (c .next2 .ensures)
+loop-again c =
+    passed-on (c .before .before .before .before .loop .inv) (search needs) (c .before .before .if1 .left) (c .before .if2 .left)
+    (c .next2 .ensures)
 
 returns-3 : tie.Need-returns-3 Inv-loop μ-loop
 returns-3 c = passed-out (c .before .loop .inv) (omega arith)
