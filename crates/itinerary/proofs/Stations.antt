@@ -5,7 +5,7 @@ use mathlib.Core.Bool.{Bool, true, false, cond, not, _&&_}
 use mathlib.Core.List.{List, [], _∷_, map}
 use Prim.Native.Nat.{ℕ, zero, suc, _+_, _-_, _<_}
 use native.Mathlib.Omega.{arith}
-use borrow.Author.Tests.{eq-eqb, ne-eqb}
+use borrow.Author.Tests.{eqb-true, eq-eqb, ne-eqb}
 use lib.Dec.{eqb}
 use lib.ListN.{length, getD, length-map}
 use Rattle.interface_table.specs.Table.{tableSound}
@@ -71,32 +71,32 @@ module _ (layout : Layout) (itinerary : List ℕ) where
   abbrev after : ℕ → ℕ → List ℕ
   after limit index = chain layout itinerary limit (nextOf layout itinerary index)
 
-  first-record : (limit index : ℕ) → 0 < length (chain layout itinerary limit index) → getD (chain layout itinerary limit index) 0 0 ≡ index
+  first-record : (limit index : ℕ) → 0 < limit → getD (chain layout itinerary limit index) 0 0 ≡ index
   unfolding chain
   first-record zero index h = absurd (omega arith)
-  first-record (suc limit) index h = go (eqb index 0) h
+  first-record (suc limit) index h = go (eqb index 0) refl
     where
-      go : (b : Bool) → 0 < length (cond b [] (index ∷ after limit index)) → getD (cond b [] (index ∷ after limit index)) 0 0 ≡ index
-      go true h = absurd (omega arith)
-      go false h = refl
+      go : (b : Bool) → eqb index 0 ≡ b → getD (cond b [] (index ∷ after limit index)) 0 0 ≡ index
+      go true e = sym (eqb-true index 0 e)
+      go false e = refl
 
-  -- the next station is the next record
-  pub next-record : (limit index place : ℕ) → suc place < length (chain layout itinerary limit index)
+  -- the next station is the next record; behind the last one is 0
+  pub next-record : (limit index place : ℕ) → place < length (chain layout itinerary limit index) → suc place < limit
       → getD (chain layout itinerary limit index) (suc place) 0
       ≡ nextOf layout itinerary (getD (chain layout itinerary limit index) place 0)
   unfolding chain
-  next-record zero index place h = absurd (omega arith)
-  next-record (suc limit) index place h = go (eqb index 0) place (next-record limit (nextOf layout itinerary index)) h
+  next-record zero index place h k = absurd (omega arith)
+  next-record (suc limit) index place h k = go (eqb index 0) place (next-record limit (nextOf layout itinerary index)) h k
     where
       go : (b : Bool) (place : ℕ)
-          → ((place : ℕ) → suc place < length (after limit index)
+          → ((place : ℕ) → place < length (after limit index) → suc place < limit
           → getD (after limit index) (suc place) 0 ≡ nextOf layout itinerary (getD (after limit index) place 0))
-          → suc place < length (cond b [] (index ∷ after limit index))
+          → place < length (cond b [] (index ∷ after limit index)) → suc place < suc limit
           → getD (cond b [] (index ∷ after limit index)) (suc place) 0
           ≡ nextOf layout itinerary (getD (cond b [] (index ∷ after limit index)) place 0)
-      go true place rest h = absurd (omega arith)
-      go false zero rest h = first-record limit (nextOf layout itinerary index) (omega arith)
-      go false (suc place) rest h = rest place (omega arith)
+      go true place rest h k = absurd (omega arith)
+      go false zero rest h k = first-record limit (nextOf layout itinerary index) (omega arith)
+      go false (suc place) rest h k = rest place (omega arith) (omega arith)
 
   -- a station is read from its record
   pub station-from-record : (stationLimit tableLimit place : ℕ) (none : Station)

@@ -26,7 +26,7 @@ fn u16_field(itinerary: &[u8], index: u32, field: u8) -> u16
 
 // ---- any record
 
-// An index has 32 bits here, more than its field.
+// The record after this one in its chain, 0 after the last; the first station's for record 0.
 pub fn next(itinerary: &[u8], index: u32) -> u32
     ensures { λ r. ⌜ r ≡ nextOf narrow (now (itinerary .entry)) index ⌝ }
 {
