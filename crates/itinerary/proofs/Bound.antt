@@ -58,7 +58,7 @@ module _ (layout : Layout) (itinerary : List ℕ) where
 
   -- ---- a sound chain has fewer records than there are
 
-  next-sound : (index : ℕ) → nextSound layout itinerary index ≡ true → (next index ≡ 0) ⊎ ((index < next index) × (next index < records))
+  pub next-sound : (index : ℕ) → nextSound layout itinerary index ≡ true → (next index ≡ 0) ⊎ ((index < next index) × (next index < records))
   unfolding nextSound
   next-sound index e = go (eqb (next index) 0) refl e
     where
@@ -99,7 +99,7 @@ module _ (layout : Layout) (itinerary : List ℕ) where
 
   module _ (stationLimit tableLimit : ℕ) where
     module _ (station : ℕ) (e : stationSound layout itinerary stationLimit tableLimit station ≡ true) where
-      station-next : nextSound layout itinerary station ≡ true
+      pub station-next : nextSound layout itinerary station ≡ true
       unfolding stationSound
       station-next = all4 (nextSound layout itinerary station) _ _ _ e .0
 

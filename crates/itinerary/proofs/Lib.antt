@@ -2,4 +2,5 @@ pub mod Every
 pub mod Walks
 pub mod Stations
 pub mod Bound
+pub mod Merge
 pub mod Cases

@@ -3,7 +3,7 @@
 use Prim.Native.Nat.{ℕ, zero, suc, _+_, _/_}
 use mathlib.Core.Bool.{Bool, true, cond, _&&_}
 use mathlib.Core.List.{List, [], _∷_}
-use lib.Dec.{eqb}
+use lib.Dec.{eqb, ltb}
 use lib.ListN.{length, getD}
 use Rattle.octets.specs.Bytes.{tabulate, be16At}
 use Rattle.itinerary.specs.Layout.{Layout, offset}
@@ -11,6 +11,11 @@ use Rattle.itinerary.specs.Layout.{Layout, offset}
 unfoldable pub every : {A : Type 0} → (A → Bool) → List A → Bool
 every holds [] = true
 every holds (x ∷ xs) = holds x && every holds xs
+
+-- without the numbers in front that are below a bound
+unfoldable pub dropBelow : ℕ → List ℕ → List ℕ
+dropBelow bound [] = []
+dropBelow bound (x ∷ xs) = cond (ltb x bound) (dropBelow bound xs) (x ∷ xs)
 
 module _ (layout : Layout) (itinerary : List ℕ) where
   unfoldable pub recordCount : ℕ

@@ -7,8 +7,10 @@ use crate::layout::RecordLayout;
 use crate::layout::StationLayout;
 use crate::record;
 ghost use mathlib.Core.Path.{_≡_};
+ghost use mathlib.Core.Bool.{true};
+ghost use Prim.Native.Nat.{_<_, _≤_};
 ghost use Rattle.itinerary.specs.Layout.{narrow};
-ghost use Rattle.itinerary.specs.Records.{every};
+ghost use Rattle.itinerary.specs.Records.{every, chain, dropBelow};
 ghost use Rattle.itinerary.specs.Itinerary.{stationRecords, tableRecords, sizeSound, indexSound, nextSound, areZero};
 ghost use Rattle.itinerary.specs.Itinerary.{zerosSound, isNoStation, interfaceSound, stationSound, headSound, soundWithin};
 
@@ -61,50 +63,62 @@ fn are_interface_zeros_sound(itinerary: &[u8], index: u32) -> bool
     )
 }
 
-fn is_no_station(itinerary: &[u8], station_limit: u32, index: u32) -> bool
-    ensures { λ r. ⌜ r ≡ isNoStation narrow (now (itinerary .entry)) «station_limit» index ⌝ }
+// A place in the chain of stations: the record, and how many may still be looked at.
+struct StationPlace {
+    pub station: u32,
+    pub left: u32,
+}
+
+// The first station from a place on whose record is not below the index.
+fn skip_below(itinerary: &[u8], place: StationPlace, index: u32) -> StationPlace
+    ensures rest { λ r. ⌜ chain narrow (now (itinerary .entry)) (r .left) (r .station)
+        ≡ dropBelow index (chain narrow (now (itinerary .entry)) (place .left) (place .station)) ⌝ }
+    ensures reached { λ r. ⌜ (0 < r .left → (r .station ≡ 0 → ⊥) → index ≤ r .station) ⌝ }
 {
-    let mut station = record::next(itinerary, 0);
-    let mut left = station_limit;
+    let mut station = place.station;
+    let mut left = place.left;
     while 0 < left {
         if station == 0 {
-            return true;
+            return StationPlace { station, left };
         }
-        if station == index {
-            return false;
+        if index <= station {
+            return StationPlace { station, left };
         }
         station = record::next(itinerary, station);
         left -= 1;
     }
-    true
+    StationPlace { station, left }
 }
 
-fn is_interface_sound(itinerary: &[u8], station_limit: u32, index: u32) -> bool
-    ensures { λ r. ⌜ r ≡ interfaceSound narrow (now (itinerary .entry)) «station_limit» index ⌝ }
-{
-    is_next_sound(itinerary, index)
-        & are_interface_zeros_sound(itinerary, index)
-        & is_no_station(itinerary, station_limit, index)
-}
-
+// Both chains go up, the stations' as required and the table's as asked, so one pass along both finds a record that is in both.
 fn are_interfaces_sound(
     itinerary: &[u8],
     station_limit: u32,
     table_limit: u32,
     station: u32,
 ) -> bool
+    requires { ⌜ every (nextSound narrow (now itinerary)) (stationRecords narrow (now itinerary) «station_limit») ≡ true ⌝ }
     ensures { λ r. ⌜ r ≡ every (interfaceSound narrow (now (itinerary .entry)) «station_limit»)
         (tableRecords narrow (now (itinerary .entry)) «table_limit» station) ⌝ }
 {
+    let mut place = StationPlace {
+        station: record::next(itinerary, 0),
+        left: station_limit,
+    };
     let mut index = record::first_interface(itinerary, station);
     let mut left = table_limit;
     while 0 < left {
         if index == 0 {
             return true;
         }
-        if !is_interface_sound(itinerary, station_limit, index) {
+        if !(is_next_sound(itinerary, index) & are_interface_zeros_sound(itinerary, index)) {
             return false;
         }
+        let reached = skip_below(itinerary, place, index);
+        if (0 < reached.left) & (reached.station == index) {
+            return false;
+        }
+        place = reached;
         index = record::next(itinerary, index);
         left -= 1;
     }
@@ -131,6 +145,7 @@ fn are_station_zeros_sound(itinerary: &[u8], index: u32) -> bool
 }
 
 fn is_station_sound(itinerary: &[u8], station_limit: u32, table_limit: u32, index: u32) -> bool
+    requires { ⌜ every (nextSound narrow (now itinerary)) (stationRecords narrow (now itinerary) «station_limit») ≡ true ⌝ }
     ensures { λ r. ⌜ r ≡ stationSound narrow (now (itinerary .entry)) «station_limit» «table_limit» index ⌝ }
 {
     is_next_sound(itinerary, index)
@@ -139,10 +154,32 @@ fn is_station_sound(itinerary: &[u8], station_limit: u32, table_limit: u32, inde
         & are_interfaces_sound(itinerary, station_limit, table_limit, index)
 }
 
+fn are_station_nexts_sound(itinerary: &[u8], station_limit: u32) -> bool
+    ensures { λ r. ⌜ r ≡ every (nextSound narrow (now (itinerary .entry)))
+        (stationRecords narrow (now (itinerary .entry)) «station_limit») ⌝ }
+{
+    let mut station = record::next(itinerary, 0);
+    let mut left = station_limit;
+    while 0 < left {
+        if station == 0 {
+            return true;
+        }
+        if !is_next_sound(itinerary, station) {
+            return false;
+        }
+        station = record::next(itinerary, station);
+        left -= 1;
+    }
+    true
+}
+
 fn are_stations_sound(itinerary: &[u8], station_limit: u32, table_limit: u32) -> bool
     ensures { λ r. ⌜ r ≡ every (stationSound narrow (now (itinerary .entry)) «station_limit» «table_limit»)
         (stationRecords narrow (now (itinerary .entry)) «station_limit») ⌝ }
 {
+    if !are_station_nexts_sound(itinerary, station_limit) {
+        return false;
+    }
     let mut station = record::next(itinerary, 0);
     let mut left = station_limit;
     while 0 < left {

@@ -1,39 +1,51 @@
 use borrow.Author.Needs.{needs}
 use native.Mathlib.Omega.{arith}
+use borrow.Author.Tests.{not-true, not-false}
 use Rattle.itinerary.specs.Layout.{narrow}
 use Rattle.itinerary.specs.Records.{firstInterfaceOf}
-use Rattle.itinerary.specs.Itinerary.{interfaceSound}
-use Rattle.itinerary.proofs.Walks.{Asked, asked-end, asked-out, answered-no, answered-yes}
+use Rattle.itinerary.proofs.Merge.{Merged, merged-start, merged-end, merged-out, merged-unsound, merged-found, merged-on, merged-skip}
 use Rattle.itinerary.proofs.sound.are_interfaces_sound.Statement.{statement}
 use Rattle.itinerary.proofs.sound.are_interfaces_sound.Tie as tie
 
 abbrev Inv-loop : tie.InvT-loop
-Inv-loop itinerary station-limit table-limit station index₀ left₀ index left =
-    Asked narrow itinerary (interfaceSound narrow itinerary station-limit) table-limit
-    (firstInterfaceOf narrow itinerary station) left index
+Inv-loop itinerary station-limit table-limit station place₀ index₀ left₀ place index left =
+    Merged narrow itinerary station-limit table-limit (firstInterfaceOf narrow itinerary station) (place .left) (place .station) left index
 
 abbrev μ-loop : tie.MeasureT-loop
-μ-loop itinerary station-limit table-limit station index₀ left₀ index left = left
+μ-loop itinerary station-limit table-limit station place₀ index₀ left₀ place index left = left
 
 loop-holds : tie.Need-loop-holds Inv-loop μ-loop
-loop-holds c = record { rest = rw (← c .first-interface .ensures) }
+loop-holds c =
+    merged-start narrow (c .before .before .before .args .itinerary .now) (c .before .before .before .args .station-limit)
+    (c .before .before .before .args .table-limit) (c .before .before .before .pre) (c .before .next .ensures) (c .first-interface .ensures)
 
 returns : tie.Need-returns Inv-loop μ-loop
-returns c = asked-end (c .before .before .loop .inv) (c .if1 .taken)
+returns c = merged-end (c .before .before .loop .inv) (c .if1 .taken)
 
 returns-2 : tie.Need-returns-2 Inv-loop μ-loop
 returns-2 c =
-    answered-no (c .before .before .before .before .loop .inv) (search needs) (c .before .before .if1 .left)
-    (c .before .is-interface-sound .ensures) (c .if2 .taken)
+    let asked = not-true _ (c .if2 .taken) in
+    merged-unsound (c .before .before .before .before .before .loop .inv) (search needs) (c .before .before .before .if1 .left)
+    (rw (← c .before .before .is-next-sound .ensures, ← c .before .are-interface-zeros-sound .ensures) asked)
+
+returns-3 : tie.Need-returns-3 Inv-loop μ-loop
+returns-3 c =
+    let reached = merged-skip (c .before .before .before .before .before .before .before .before .before .loop .inv)
+    (c .before .before .before .before .before .before .before .if1 .left) (c .before .before .before .skip-below .ensures .0) in
+    merged-found reached (search needs) (c .before .before .before .before .before .before .before .if1 .left) (c .if3 .taken)
 
 loop-again : tie.Need-loop-again Inv-loop μ-loop
 loop-again c =
-    let sound = c .before .before .is-interface-sound .ensures in
-    answered-yes (c .before .before .before .before .before .loop .inv) (search needs) (c .before .before .before .if1 .left) sound
-    (c .before .if2 .left) (c .next .ensures)
+    let reached = merged-skip (c .before .before .before .before .before .before .before .before .before .before .loop .inv)
+    (c .before .before .before .before .before .before .before .before .if1 .left)
+    (c .before .before .before .before .skip-below .ensures .0) in
+    let asked = not-false _ (c .before .before .before .before .before .if2 .left) in
+    merged-on reached (search needs) (c .before .before .before .before .before .before .before .before .if1 .left)
+    (c .before .before .before .before .skip-below .ensures .1)
+    (rw (← c .before .before .before .before .before .before .before .is-next-sound .ensures, ← c .before .before .before .before .before .before .are-interface-zeros-sound .ensures) asked) (c .before .if3 .left) (c .next2 .ensures)
 
-returns-3 : tie.Need-returns-3 Inv-loop μ-loop
-returns-3 c = asked-out (c .before .loop .inv) (omega arith)
+returns-4 : tie.Need-returns-4 Inv-loop μ-loop
+returns-4 c = merged-out (c .before .loop .inv) (omega arith)
 
 pub are-interfaces-sound-spec : {M : Type 1} → statement M
 are-interfaces-sound-spec =
@@ -42,12 +54,16 @@ are-interfaces-sound-spec =
     Inv-loop
     μ-loop
     (λ c κs. search needs)
+    (λ c κs. search needs)
     loop-holds
     returns
     (λ c κs. search needs)
+    (λ c κs. search needs)
     returns-2
+    (λ c κs. search needs)
+    returns-3
     (λ c κs. search needs)
     (λ c. search needs)
     (λ c. search needs)
     loop-again
-    returns-3)
+    returns-4)

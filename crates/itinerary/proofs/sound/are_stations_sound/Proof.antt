@@ -1,8 +1,11 @@
 use borrow.Author.Needs.{needs}
+use mathlib.Core.Path.{sym, _∙_}
 use native.Mathlib.Omega.{arith}
+use borrow.Author.Tests.{not-true, not-false}
 use Rattle.itinerary.specs.Layout.{narrow}
 use Rattle.itinerary.specs.Records.{firstStation}
 use Rattle.itinerary.specs.Itinerary.{stationSound}
+use Rattle.itinerary.proofs.Merge.{nexts-unsound}
 use Rattle.itinerary.proofs.Walks.{Asked, asked-end, asked-out, answered-no, answered-yes}
 use Rattle.itinerary.proofs.sound.are_stations_sound.Statement.{statement}
 use Rattle.itinerary.proofs.sound.are_stations_sound.Tie as tie
@@ -15,25 +18,36 @@ Inv-loop itinerary station-limit table-limit station₀ left₀ station left =
 abbrev μ-loop : tie.MeasureT-loop
 μ-loop itinerary station-limit table-limit station₀ left₀ station left = left
 
+returns : tie.Need-returns Inv-loop μ-loop
+returns c =
+    let nexts = sym (c .before .are-station-nexts-sound .ensures) ∙ not-true _ (c .if1 .taken) in
+    nexts-unsound narrow (c .before .before .before .args .itinerary .now) (c .before .before .before .args .station-limit)
+    (c .before .before .before .args .table-limit) _ nexts
+
 loop-holds : tie.Need-loop-holds Inv-loop μ-loop
 loop-holds c = record { rest = rw (← c .next .ensures) }
 
-returns : tie.Need-returns Inv-loop μ-loop
-returns c = asked-end (c .before .before .loop .inv) (c .if1 .taken)
-
 returns-2 : tie.Need-returns-2 Inv-loop μ-loop
-returns-2 c =
-    answered-no (c .before .before .before .before .loop .inv) (search needs) (c .before .before .if1 .left)
-    (c .before .is-station-sound .ensures) (c .if2 .taken)
+returns-2 c = asked-end (c .before .before .loop .inv) (c .if2 .taken)
+
+is-station-sound-requires : tie.Need-is-station-sound-requires Inv-loop μ-loop
+is-station-sound-requires c κs =
+    sym (c .before .before .before .before .before .are-station-nexts-sound .ensures) ∙ not-false _
+    (c .before .before .before .before .if1 .left)
+
+returns-3 : tie.Need-returns-3 Inv-loop μ-loop
+returns-3 c =
+    answered-no (c .before .before .before .before .loop .inv) (search needs) (c .before .before .if2 .left)
+    (c .before .is-station-sound .ensures) (c .if3 .taken)
 
 loop-again : tie.Need-loop-again Inv-loop μ-loop
 loop-again c =
     let sound = c .before .before .is-station-sound .ensures in
-    answered-yes (c .before .before .before .before .before .loop .inv) (search needs) (c .before .before .before .if1 .left) sound
-    (c .before .if2 .left) (c .next2 .ensures)
+    answered-yes (c .before .before .before .before .before .loop .inv) (search needs) (c .before .before .before .if2 .left) sound
+    (c .before .if3 .left) (c .next2 .ensures)
 
-returns-3 : tie.Need-returns-3 Inv-loop μ-loop
-returns-3 c = asked-out (c .before .loop .inv) (omega arith)
+returns-4 : tie.Need-returns-4 Inv-loop μ-loop
+returns-4 c = asked-out (c .before .loop .inv) (omega arith)
 
 pub are-stations-sound-spec : {M : Type 1} → statement M
 are-stations-sound-spec =
@@ -42,12 +56,14 @@ are-stations-sound-spec =
     Inv-loop
     μ-loop
     (λ c κs. search needs)
-    loop-holds
     returns
     (λ c κs. search needs)
+    loop-holds
     returns-2
+    is-station-sound-requires
+    returns-3
     (λ c κs. search needs)
     (λ c. search needs)
     (λ c. search needs)
     loop-again
-    returns-3)
+    returns-4)

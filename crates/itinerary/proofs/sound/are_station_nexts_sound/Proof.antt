@@ -1,0 +1,52 @@
+use borrow.Author.Needs.{needs}
+use native.Mathlib.Omega.{arith}
+use Rattle.itinerary.specs.Layout.{narrow}
+use Rattle.itinerary.specs.Records.{firstStation}
+use Rattle.itinerary.specs.Itinerary.{nextSound}
+use Rattle.itinerary.proofs.Walks.{Asked, asked-end, asked-out, answered-no, answered-yes}
+use Rattle.itinerary.proofs.sound.are_station_nexts_sound.Statement.{statement}
+use Rattle.itinerary.proofs.sound.are_station_nexts_sound.Tie as tie
+
+abbrev Inv-loop : tie.InvT-loop
+Inv-loop itinerary station-limit station₀ left₀ station left =
+    Asked narrow itinerary (nextSound narrow itinerary) station-limit (firstStation narrow itinerary) left station
+
+abbrev μ-loop : tie.MeasureT-loop
+μ-loop itinerary station-limit station₀ left₀ station left = left
+
+loop-holds : tie.Need-loop-holds Inv-loop μ-loop
+loop-holds c = record { rest = rw (← c .next .ensures) }
+
+returns : tie.Need-returns Inv-loop μ-loop
+returns c = asked-end (c .before .before .loop .inv) (c .if1 .taken)
+
+returns-2 : tie.Need-returns-2 Inv-loop μ-loop
+returns-2 c =
+    answered-no (c .before .before .before .before .loop .inv) (search needs) (c .before .before .if1 .left)
+    (c .before .is-next-sound .ensures) (c .if2 .taken)
+
+loop-again : tie.Need-loop-again Inv-loop μ-loop
+loop-again c =
+    let sound = c .before .before .is-next-sound .ensures in
+    answered-yes (c .before .before .before .before .before .loop .inv) (search needs) (c .before .before .before .if1 .left) sound
+    (c .before .if2 .left) (c .next2 .ensures)
+
+returns-3 : tie.Need-returns-3 Inv-loop μ-loop
+returns-3 c = asked-out (c .before .loop .inv) (omega arith)
+
+pub are-station-nexts-sound-spec : {M : Type 1} → statement M
+are-station-nexts-sound-spec =
+    tie.close
+    (tie.spec
+    Inv-loop
+    μ-loop
+    (λ c κs. search needs)
+    loop-holds
+    returns
+    (λ c κs. search needs)
+    returns-2
+    (λ c κs. search needs)
+    (λ c. search needs)
+    (λ c. search needs)
+    loop-again
+    returns-3)

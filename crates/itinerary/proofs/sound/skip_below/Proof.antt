@@ -1,0 +1,46 @@
+use borrow.Author.Needs.{needs}
+use mathlib.Core.Path.{refl}
+use native.Mathlib.Omega.{arith}
+use Rattle.itinerary.specs.Layout.{narrow}
+use Rattle.itinerary.proofs.Merge.{Skipped, skipped-end, skipped-out, skipped-here, skipped-on}
+use Rattle.itinerary.proofs.sound.skip_below.Statement.{statement}
+use Rattle.itinerary.proofs.sound.skip_below.Tie as tie
+
+abbrev Inv-loop : tie.InvT-loop
+Inv-loop itinerary index station₀ left₀ station left = Skipped narrow itinerary index left₀ station₀ left station
+
+abbrev μ-loop : tie.MeasureT-loop
+μ-loop itinerary index station₀ left₀ station left = left
+
+loop-holds : tie.Need-loop-holds Inv-loop μ-loop
+loop-holds c = record { rest = refl }
+
+returns : tie.Need-returns Inv-loop μ-loop
+returns c = (skipped-end (c .before .before .loop .inv) (c .if1 .taken), λ more here. absurd (here (c .if1 .taken)))
+
+returns-2 : tie.Need-returns-2 Inv-loop μ-loop
+returns-2 c =
+    (skipped-here (c .before .before .before .loop .inv) (search needs) (c .before .if1 .left) (c .if2 .taken), λ more here. c .if2 .taken)
+
+loop-again : tie.Need-loop-again Inv-loop μ-loop
+loop-again c =
+    skipped-on (c .before .before .before .before .loop .inv) (search needs) (c .before .before .if1 .left) (c .before .if2 .left)
+    (c .next .ensures)
+
+returns-3 : tie.Need-returns-3 Inv-loop μ-loop
+returns-3 c = (skipped-out (c .before .loop .inv) (omega arith), λ more here. absurd (omega arith))
+
+pub skip-below-spec : {M : Type 1} → statement M
+skip-below-spec =
+    tie.close
+    (tie.spec
+    Inv-loop
+    μ-loop
+    loop-holds
+    returns
+    returns-2
+    (λ c κs. search needs)
+    (λ c. search needs)
+    (λ c. search needs)
+    loop-again
+    returns-3)
