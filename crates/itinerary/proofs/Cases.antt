@@ -59,7 +59,8 @@ soundOnes =
     ∷ []
 
 sound : AllAnswer (itinerarySound narrow) true soundOnes
-unfolding every recordCount bytesOf nextOf firstInterfaceOf chain sizeSound nextSound areZero zerosSound isNoStation interfaceSound stationSound headSound soundWithin
+unfolding every recordCount bytesOf nextOf firstInterfaceOf chain sizeSound nextSound areZero zerosSound
+    isNoStation interfaceSound stationSound headSound soundWithin
 sound = refl
 
 abbrev unsoundOnes : List (List ℕ)
@@ -89,12 +90,14 @@ unsoundOnes =
     ∷ changed ((2, 31, 1) ∷ [])
     ∷ changed ((3, 5, 1) ∷ [])
     ∷ changed ((4, 31, 1) ∷ [])
-    -- the second station, without a table, is the first one's interface too
+    -- the second station, without a table, is the first one's interface too; a third one is at the end of their table
     ∷ changed ((2, 5, 0) ∷ (1, 5, 2) ∷ [])
+    ∷ changed ((4, 1, 5) ∷ (2, 1, 5) ∷ (5, 1, 0) ∷ (5, 3, 1) ∷ (5, 5, 0) ∷ (5, 6, 0) ∷ [])
     ∷ []
 
 unsound : AllAnswer (itinerarySound narrow) false unsoundOnes
-unfolding every recordCount bytesOf nextOf firstInterfaceOf chain sizeSound nextSound areZero zerosSound isNoStation interfaceSound stationSound headSound soundWithin
+unfolding every recordCount bytesOf nextOf firstInterfaceOf chain sizeSound nextSound areZero zerosSound
+    isNoStation interfaceSound stationSound headSound soundWithin
 unsound = refl
 
 -- 2,048 records may be sound, 2,049 are not
@@ -117,7 +120,9 @@ fittingOnes =
     ∷ []
 
 fits : AllAnswer (λ itinerary. itineraryFits narrow itinerary 2) true fittingOnes
-unfolding every recordCount bytesOf nextOf firstInterfaceOf chain sizeSound nextSound areZero zerosSound isNoStation interfaceSound stationSound headSound soundWithin arrivalOf interfaceNumberOf interfaceStateOf stationWithin stationsWithin tablesSound arrivalsFit fitsWithin idsAscending statesSound tableSound
+unfolding every recordCount bytesOf nextOf firstInterfaceOf chain sizeSound nextSound areZero zerosSound
+    isNoStation interfaceSound stationSound headSound soundWithin
+    arrivalOf interfaceNumberOf interfaceStateOf stationWithin stationsWithin tablesSound arrivalsFit fitsWithin idsAscending statesSound tableSound
 fits = refl
 
 abbrev unfitOnes : List (List ℕ)
@@ -136,5 +141,7 @@ unfitOnes =
     ∷ []
 
 unfit : AllAnswer (λ itinerary. itineraryFits narrow itinerary 2) false unfitOnes
-unfolding every recordCount bytesOf nextOf firstInterfaceOf chain sizeSound nextSound areZero zerosSound isNoStation interfaceSound stationSound headSound soundWithin arrivalOf interfaceNumberOf interfaceStateOf stationWithin stationsWithin tablesSound arrivalsFit fitsWithin idsAscending statesSound tableSound
+unfolding every recordCount bytesOf nextOf firstInterfaceOf chain sizeSound nextSound areZero zerosSound
+    isNoStation interfaceSound stationSound headSound soundWithin
+    arrivalOf interfaceNumberOf interfaceStateOf stationWithin stationsWithin tablesSound arrivalsFit fitsWithin idsAscending statesSound tableSound
 unfit = refl

@@ -204,7 +204,8 @@ module _ {layout : Layout} {itinerary : List ℕ} {bound limit first left statio
 
 pub nexts-unsound : (layout : Layout) (itinerary : List ℕ) (stationLimit tableLimit : ℕ) (stations : List ℕ)
     → every (nextSound layout itinerary) stations ≡ false → false ≡ every (stationSound layout itinerary stationLimit tableLimit) stations
-nexts-unsound layout itinerary stationLimit tableLimit stations e = go (every (stationSound layout itinerary stationLimit tableLimit) stations) refl
+nexts-unsound layout itinerary stationLimit tableLimit stations e =
+    go (every (stationSound layout itinerary stationLimit tableLimit) stations) refl
   where
     go : (b : Bool) → every (stationSound layout itinerary stationLimit tableLimit) stations ≡ b → false ≡ b
     go false d = refl

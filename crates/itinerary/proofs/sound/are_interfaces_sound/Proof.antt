@@ -25,24 +25,28 @@ returns c = merged-end (c .before .before .loop .inv) (c .if1 .taken)
 returns-2 : tie.Need-returns-2 Inv-loop μ-loop
 returns-2 c =
     let asked = not-true _ (c .if2 .taken) in
+    let next = c .before .before .is-next-sound .ensures in
+    let zeros = c .before .are-interface-zeros-sound .ensures in
     merged-unsound (c .before .before .before .before .before .loop .inv) (search needs) (c .before .before .before .if1 .left)
-    (rw (← c .before .before .is-next-sound .ensures, ← c .before .are-interface-zeros-sound .ensures) asked)
+    (rw (← next, ← zeros) asked)
 
 returns-3 : tie.Need-returns-3 Inv-loop μ-loop
 returns-3 c =
-    let reached = merged-skip (c .before .before .before .before .before .before .before .before .before .loop .inv)
-    (c .before .before .before .before .before .before .before .if1 .left) (c .before .before .before .skip-below .ensures .0) in
-    merged-found reached (search needs) (c .before .before .before .before .before .before .before .if1 .left) (c .if3 .taken)
+    let here = c .before .before .before .before .before .before .before .if1 .left in
+    let reached = merged-skip (c .before .before .before .before .before .before .before .before .before .loop .inv) here
+    (c .before .before .before .skip-below .ensures .0) in
+    merged-found reached (search needs) here (c .if3 .taken)
 
 loop-again : tie.Need-loop-again Inv-loop μ-loop
 loop-again c =
-    let reached = merged-skip (c .before .before .before .before .before .before .before .before .before .before .loop .inv)
-    (c .before .before .before .before .before .before .before .before .if1 .left)
-    (c .before .before .before .before .skip-below .ensures .0) in
+    let here = c .before .before .before .before .before .before .before .before .if1 .left in
+    let skipped = c .before .before .before .before .skip-below .ensures in
+    let reached = merged-skip (c .before .before .before .before .before .before .before .before .before .before .loop .inv) here
+    (skipped .0) in
     let asked = not-false _ (c .before .before .before .before .before .if2 .left) in
-    merged-on reached (search needs) (c .before .before .before .before .before .before .before .before .if1 .left)
-    (c .before .before .before .before .skip-below .ensures .1)
-    (rw (← c .before .before .before .before .before .before .before .is-next-sound .ensures, ← c .before .before .before .before .before .before .are-interface-zeros-sound .ensures) asked) (c .before .if3 .left) (c .next2 .ensures)
+    let next = c .before .before .before .before .before .before .before .is-next-sound .ensures in
+    let zeros = c .before .before .before .before .before .before .are-interface-zeros-sound .ensures in
+    merged-on reached (search needs) here (skipped .1) (rw (← next, ← zeros) asked) (c .before .if3 .left) (c .next2 .ensures)
 
 returns-4 : tie.Need-returns-4 Inv-loop μ-loop
 returns-4 c = merged-out (c .before .loop .inv) (omega arith)
