@@ -21,7 +21,7 @@ use Rattle.validator.specs.declared.answer.StandardRoutingError.{StandardRoutin
 use Rattle.routing.specs.declared.place.Located.the-variants.{Here, Nowhere}
 use Rattle.routing.specs.Place.{headerQuestions, located}
 
-leb-is : (low high : ℕ) → leb low high ≡ not (ltb high low)
+pub leb-is : (low high : ℕ) → leb low high ≡ not (ltb high low)
 leb-is low high = go (ltb high low) refl
   where
     go : (less : Bool) → ltb high low ≡ less → leb low high ≡ not less

@@ -66,37 +66,37 @@ unmoved path = record {
 }
 
 module _ (path : List ℕ) (inside : currInf path < infos path) where
-  stepped-kept : (taken : Bool) → Kept path (stepped path taken)
+  pub stepped-kept : (taken : Bool) → Kept path (stepped path taken)
   unfolding stepped
   stepped-kept true = seg-id-kept path (currInf path) _
   stepped-kept false = kept-self path
 
-  stepped-inf : (taken : Bool) → currInf (stepped path taken) ≡ currInf path
+  pub stepped-inf : (taken : Bool) → currInf (stepped path taken) ≡ currInf path
   unfolding stepped
   stepped-inf true = seg-id-curr-inf path (currInf path) _
   stepped-inf false = refl
 
-  stepped-hf : (taken : Bool) → currHf (stepped path taken) ≡ currHf path
+  pub stepped-hf : (taken : Bool) → currHf (stepped path taken) ≡ currHf path
   unfolding stepped
   stepped-hf true = seg-id-curr-hf path (currInf path) _
   stepped-hf false = refl
 
-  stepped-hop : (taken : Bool) (j : ℕ) → hopField (stepped path taken) j ≡ hopField path j
+  pub stepped-hop : (taken : Bool) (j : ℕ) → hopField (stepped path taken) j ≡ hopField path j
   unfolding stepped
   stepped-hop true j = seg-id-hop path (currInf path) _ inside j
   stepped-hop false j = refl
 
-  stepped-info : (taken : Bool) (j : ℕ) → SameInfo (infoField path j) (infoField (stepped path taken) j)
+  pub stepped-info : (taken : Bool) (j : ℕ) → SameInfo (infoField path j) (infoField (stepped path taken) j)
   unfolding stepped
   stepped-info true j = record { dir = seg-id-cons-dir path (currInf path) _ j; start = seg-id-timestamp path (currInf path) _ j }
   stepped-info false j = same-info refl
 
-  stepped-info-other : (taken : Bool) (j : ℕ) → (j ≡ currInf path → ⊥) → infoField (stepped path taken) j ≡ infoField path j
+  pub stepped-info-other : (taken : Bool) (j : ℕ) → (j ≡ currInf path → ⊥) → infoField (stepped path taken) j ≡ infoField path j
   unfolding stepped
   stepped-info-other true j h = seg-id-info-other path (currInf path) _ j h
   stepped-info-other false j h = refl
 
-  stepped-seg-id : (taken : Bool) → infoOffset (currInf path) + 8 ≤ length path
+  pub stepped-seg-id : (taken : Bool) → infoOffset (currInf path) + 8 ≤ length path
       → segId (infoField (stepped path taken) (currInf path)) ≡ touchedSegId path taken
   unfolding stepped
   stepped-seg-id true h = seg-id-after path (currInf path) _ h

@@ -1,0 +1,270 @@
+-- Demand 3: of each call that 2 to 4 and 23 to 25 let through, the check passes exactly if the path travels.
+-- Assumes nothing.
+use mathlib.Core.Path.{_≡_, refl, sym, _∙_}
+use mathlib.Core.Bool.{Bool, true, false, not, _&&_, cond}
+use mathlib.Core.List.{List, [], _∷_}
+use mathlib.Core.Logic.{_↔_}
+use Prim.Native.Nat.{ℕ, zero, suc, _+_, _-_, _≤_, _<_}
+use native.Mathlib.Omega.{arith}
+use borrow.Author.Tests.{eqb-true, eqb-false, leb-true, not-true}
+use lib.Dec.{eqb, leb}
+use lib.ListN.{length, getD, replicate, length-replicate, getD-replicate}
+use Rattle.standard_path.specs.Mac.{macChainingBeta}
+use Rattle.standard_path.specs.Fields.{currInf, currHf, consIngressAlert, consEgressAlert, seg0Len, consDir, segId}
+use Rattle.standard_path.specs.Header.{infos, hops, headerSize, infoField, hopField}
+use Rattle.standard_path.proofs.Kept.{kept-self}
+use Rattle.interface_table.specs.Table.{tableSound}
+use Rattle.routing.specs.Place.{before}
+use Rattle.routing.proofs.Touched.{same-info}
+use Rattle.itinerary.specs.Layout.{Layout}
+use Rattle.itinerary.specs.Records.{every}
+use Rattle.itinerary.specs.Itinerary.{Station, stations, itinerarySound, arrivalsFit, tablesSound, itineraryFits, fitsWithin}
+use Rattle.journey.specs.declared.answer.Verdict.{Verdict}
+use Rattle.journey.specs.declared.answer.Verdict.the-variants.{Passed, NotPassed}
+use Rattle.journey.specs.Check.{countOf, noStation, chainedSegId, macsFrom, all, passes}
+use Rattle.journey.specs.Journey.{stepAt, goesOn, delivers, journey, endedWell, arrives, Readings, Travels, Demand3}
+use Rattle.journey.specs.Verdict.{stationCount, quiet, Question, questions, firstNo, journeyCheck, letThrough}
+use Rattle.journey.proofs.Quiet.{Quiet}
+use Rattle.journey.proofs.Yes.{first-of, second-of}
+use Rattle.journey.proofs.FirstStation.{placed-yes, first-long}
+use Rattle.journey.proofs.Stands.{Stands, arrivingSegId}
+use Rattle.journey.proofs.Hops.{Hop}
+use Rattle.journey.proofs.Steps.{Given}
+use Rattle.journey.proofs.Along.{Along, AllReached, well-along, along-well, well-last, well-more, refused-not-on, refused-not-delivered, never}
+use Rattle.journey.proofs.Facts.{Shape, AllFacts, first-of-shape, along-facts, facts-along, along-shape}
+use Rattle.journey.proofs.Parts.{all-at, Counted, passes-shape, check-facts, facts-check}
+
+-- ---- what the questions let through
+
+pub record Asked (path : List ℕ) (stations : List Station) (earliest latest : ℕ) : Type 0 where
+  pub given : Given path
+  pub counted : Counted path stations
+  pub sound : (k : ℕ) → k < length stations → tableSound (getD stations k noStation .ids) (getD stations k noStation .states) ≡ true
+  pub ordered : earliest ≤ latest
+  pub hf : currHf path ≡ 0
+  pub inf : currInf path ≡ 0
+
+module _ {path : List ℕ} {stations : List Station} {earliest latest : ℕ} (a : Asked path stations earliest latest) where
+  -- the path stands at its first hop
+  pub starts : Stands path path 0 0 (arrivingSegId path 0 0)
+  unfolding chainedSegId macsFrom macChainingBeta
+  starts = record {
+    kept = kept-self path;
+    inf = a .inf;
+    hf = a .hf;
+    hop-same = λ j. refl;
+    info-same = λ i. same-info refl;
+    seg = go (consDir (infoField path 0));
+    later = λ i l. refl;
+  }
+    where
+      go : (c : Bool) → segId (infoField path 0) ≡ cond c (segId (infoField path 0)) (segId (infoField path 0))
+      go true = refl
+      go false = refl
+
+  pub first-hop : 2 ≤ seg0Len path → Hop path 0 0
+  first-hop long-first = record { third = omega arith; long = long; within = omega arith }
+    where
+      long : (u : ℕ) → u ≤ 0 → 2 ≤ countOf path u
+      long zero l = long-first
+      long (suc u) l = absurd (omega arith)
+
+  -- every station is reached as the check's premises have it
+  later-reached : (rest : List Station)
+      → ((k : ℕ) → k < length rest → tableSound (getD rest k noStation .ids) (getD rest k noStation .states) ≡ true)
+      → ((k : ℕ) → k < length rest → getD rest k noStation .arrival ≡ 0 → ⊥) → AllReached 1 rest
+  later-reached [] sound outside = tt
+  later-reached (station ∷ rest) sound outside = (
+    record { sound = sound 0 (omega arith); local = λ (e : _≡_ {A = ℕ} 1 0). absurd (omega arith); outside = λ l. outside 0 (omega arith) },
+    later-reached rest (λ k l. sound (suc k) (omega arith)) (λ k l. outside (suc k) (omega arith)),
+  )
+
+  all-reached : (all : List Station)
+      → ((k : ℕ) → k < length all → tableSound (getD all k noStation .ids) (getD all k noStation .states) ≡ true)
+      → getD all 0 noStation .arrival ≡ 0 → ((k : ℕ) → 1 ≤ k → k < length all → getD all k noStation .arrival ≡ 0 → ⊥) → AllReached 0 all
+  all-reached [] sound first later = tt
+  all-reached (station ∷ rest) sound first later = (
+    record { sound = sound 0 (omega arith); local = λ e. first; outside = λ (l : 1 ≤ 0). absurd (omega arith) },
+    later-reached rest (λ k l. sound (suc k) (omega arith)) (λ k l. later (suc k) (omega arith) (omega arith)),
+  )
+
+  pub reached : AllReached 0 stations
+  reached = all-reached stations (a .sound) (a .counted .first) (a .counted .later)
+
+  -- ---- a path that arrives has a first segment of two hops or more
+
+  arrives-long : (all : List Station) (readings : List ℕ) → endedWell (0 + length all) (journey 0 all readings path) ≡ true
+      → 2 ≤ seg0Len path
+  unfolding endedWell journey
+  arrives-long [] readings e = absurd (never e)
+  arrives-long (station ∷ rest) [] e = absurd (never e)
+  arrives-long (station ∷ []) (reading ∷ readings) e =
+      first-long path (a .hf) (a .inf)
+      (placed-yes delivers refused-not-delivered station reading path (sym (well-last 0 station reading readings path) ∙ e))
+  arrives-long (station ∷ next ∷ rest) (reading ∷ readings) e =
+      first-long path (a .hf) (a .inf)
+      (placed-yes goesOn refused-not-on station reading path
+      (first-of (goesOn (stepAt station reading path .answer)) _
+      (sym (well-more 0 (0 + length (station ∷ next ∷ rest)) station next rest reading readings path (omega arith)) ∙ e)))
+
+  -- ---- what the readings find
+
+  abbrev well : List ℕ → Type 0
+  well readings = endedWell (0 + length stations) (journey 0 stations readings path) ≡ true
+
+  arrives-well : (readings : List ℕ) → arrives stations readings path ≡ true → well readings
+  unfolding arrives
+  arrives-well readings e = let q : 0 + length stations ≡ length stations = omega arith in rw q e
+
+  well-arrives : (readings : List ℕ) → well readings → arrives stations readings path ≡ true
+  unfolding arrives
+  well-arrives readings e = let q : length stations ≡ 0 + length stations = omega arith in rw q e
+
+  found : (readings : List ℕ) → arrives stations readings path ≡ true → Along path 0 0 stations readings
+  found readings e =
+      let w = arrives-well readings e in
+      well-along (a .given) stations readings 0 0 0 path starts (first-hop (arrives-long stations readings w)) reached w
+
+  shape-of : (readings : List ℕ) → arrives stations readings path ≡ true → Shape path
+  shape-of readings e =
+      along-shape 0 0 stations readings (found readings e) (first-hop (arrives-long stations readings (arrives-well readings e)))
+
+  facts : (readings : List ℕ) → arrives stations readings path ≡ true → AllFacts path 0 0 stations readings
+  facts readings e =
+      along-facts (shape-of readings e) 0 0 stations readings (found readings e)
+      (first-hop (arrives-long stations readings (arrives-well readings e))) (λ z. refl)
+
+  -- two runs decide it: every clock at the earliest reading, and every clock at the latest
+  pub two-runs : arrives stations (replicate (length stations) earliest) path ≡ true
+      → arrives stations (replicate (length stations) latest) path ≡ true → passes stations earliest latest path ≡ true
+  two-runs early late =
+      facts-check stations earliest latest path (shape-of _ early) (a .counted) (replicate (length stations) earliest)
+      (replicate (length stations) latest)
+      (λ k l. rw (getD-replicate (length stations) k earliest 0 l) (omega arith))
+      (λ k l. rw (getD-replicate (length stations) k latest 0 l) (omega arith))
+      (facts _ early) (facts _ late)
+
+  constant : (reading : ℕ) → earliest ≤ reading → reading ≤ latest → Readings stations earliest latest (replicate (length stations) reading)
+  constant reading low high =
+      let n = length stations in
+      let e : length (replicate n reading) ≡ n = length-replicate n reading in
+      record {
+        each = e;
+        after = λ k l. rw (getD-replicate n k reading 0 (omega (arith, e))) low;
+        before = λ k l. rw (getD-replicate n k reading 0 (omega (arith, e))) high;
+      }
+
+  passes-travels : passes stations earliest latest path ≡ true → Travels stations earliest latest path
+  unfolding Travels
+  passes-travels e readings r =
+      let shape = passes-shape stations earliest latest path e in
+      let first = first-hop (first-of-shape shape) in
+      let each : length readings ≡ length stations = r .each in
+      let all-facts = check-facts stations earliest latest path e (a .counted) readings
+      (λ k l. r .after k (omega arith)) (λ k l. r .before k (omega arith)) in
+      well-arrives readings
+      (along-well (a .given) stations readings 0 0 0 path starts first reached
+      (facts-along shape stations readings 0 0 first (omega (arith, a .counted .many), each) all-facts))
+
+  travels-passes : Travels stations earliest latest path → passes stations earliest latest path ≡ true
+  unfolding Travels
+  travels-passes t =
+      two-runs (t _ (constant earliest (omega arith) (a .ordered))) (t _ (constant latest (a .ordered) (omega arith)))
+
+  pub check-travels : (passes stations earliest latest path ≡ true) ↔ Travels stations earliest latest path
+  check-travels = (passes-travels, travels-passes)
+
+-- ---- from the questions
+
+every-at : {A : Type 0} (holds : A → Bool) (xs : List A) (none : A) → every holds xs ≡ true → (k : ℕ) → k < length xs
+    → holds (getD xs k none) ≡ true
+unfolding every
+every-at holds [] none e k l = absurd (omega arith)
+every-at holds (x ∷ xs) none e zero l = first-of (holds x) (every holds xs) e
+every-at holds (x ∷ xs) none e (suc k) l = every-at holds xs none (second-of (holds x) (every holds xs) e) k (omega arith)
+
+first-arrival : (all : List Station) → arrivalsFit all ≡ true → getD all 0 noStation .arrival ≡ 0
+unfolding arrivalsFit
+first-arrival [] e = refl
+first-arrival (station ∷ rest) e = eqb-true _ _ (first-of (eqb (station .arrival) 0) _ e)
+
+later-arrivals : (all : List Station) → arrivalsFit all ≡ true → (k : ℕ) → 1 ≤ k → k < length all → getD all k noStation .arrival ≡ 0 → ⊥
+unfolding arrivalsFit
+later-arrivals [] e k some l = absurd (omega arith)
+later-arrivals (station ∷ rest) e zero some l = absurd (omega arith)
+later-arrivals (station ∷ rest) e (suc k) some l =
+    eqb-false _ _
+    (not-true _
+    (every-at (λ station. not (eqb (station .arrival) 0)) rest noStation (second-of (eqb (station .arrival) 0) _ e) k (omega arith)))
+
+pub infos-few : (path : List ℕ) → infos path ≤ hops path
+unfolding infos hops
+infos-few path = omega arith
+
+module _ (layout : Layout) (itinerary : List ℕ) (earliest latest : ℕ) (path : List ℕ)
+    (e : letThrough (questions layout itinerary earliest latest path) ≡ true) where
+  abbrev all-stations : List Station
+  all-stations = stations layout itinerary
+
+  quiet-at : quiet path ≡ true → (j : ℕ) → j < hops path → Quiet (hopField path j)
+  unfolding quiet
+  quiet-at q j l =
+      let here = all-at (hops path) (λ j. not (consIngressAlert (hopField path j)) && not (consEgressAlert (hopField path j))) q j l in
+      record {
+        into = not-true _ (first-of (not (consIngressAlert (hopField path j))) _ here);
+        out = not-true _ (second-of (not (consIngressAlert (hopField path j))) _ here);
+      }
+
+  pub asked : Asked path all-stations earliest latest
+  unfolding letThrough fitsWithin tablesSound
+  asked =
+      let from-3 = second-of (leb 4 (length path)) _ e in
+      let from-4 = second-of (leb (headerSize path) (length path)) _ from-3 in
+      let from-23 = second-of (leb (hops path) 64) _ from-4 in
+      let from-24 = second-of (itineraryFits layout itinerary (stationCount path) && leb earliest latest) _ from-23 in
+      let from-25 = second-of (eqb (currHf path) 0 && eqb (currInf path) 0) _ from-24 in
+      let plan = first-of (itineraryFits layout itinerary (stationCount path) && leb earliest latest) _ from-23 in
+      let place = first-of (eqb (currHf path) 0 && eqb (currInf path) 0) _ from-24 in
+      let fits = first-of (itineraryFits layout itinerary (stationCount path)) _ plan in
+      let three = first-of _ (tablesSound all-stations) fits in
+      let two = first-of _ (arrivalsFit all-stations) three in
+      let many : length all-stations ≡ stationCount path = eqb-true _ _ (second-of (itinerarySound layout itinerary) _ two) in
+      let arrivals = second-of (itinerarySound layout itinerary && eqb (length all-stations) (stationCount path)) _ three in
+      record {
+        given = record {
+          room = leb-true _ _ (first-of (leb (headerSize path) (length path)) _ from-3);
+          few = leb-true _ _ (first-of (leb (hops path) 64) _ from-4);
+          quiet = quiet-at (first-of (quiet path) true from-25);
+        };
+        counted = record {
+          many = omega (arith, many, infos-few path);
+          first = first-arrival all-stations arrivals;
+          later = later-arrivals all-stations arrivals;
+        };
+        sound = every-at (λ station. tableSound (station .ids) (station .states)) all-stations noStation
+            (second-of ((itinerarySound layout itinerary && eqb (length all-stations) (stationCount path)) && arrivalsFit all-stations) _ fits);
+        ordered = leb-true _ _ (second-of (itineraryFits layout itinerary (stationCount path)) _ plan);
+        hf = eqb-true _ _ (first-of (eqb (currHf path) 0) _ place);
+        inf = eqb-true _ _ (second-of (eqb (currHf path) 0) _ place);
+      }
+
+pub first-no-none : (qs : List Question) (verdict : Verdict) → letThrough qs ≡ true → firstNo qs verdict ≡ verdict
+unfolding letThrough firstNo
+first-no-none [] verdict e = refl
+first-no-none (question ∷ more) verdict e =
+    rw (first-of (question .0) _ e) (first-no-none more verdict (second-of (question .0) _ e))
+
+pub demand-3 : (layout : Layout) (itinerary : List ℕ) (earliest latest : ℕ) (path : List ℕ)
+    → Demand3 layout itinerary earliest latest path (journeyCheck layout itinerary earliest latest path)
+unfolding Demand3 journeyCheck
+demand-3 layout itinerary earliest latest path e =
+    let verdict = first-no-none (questions layout itinerary earliest latest path)
+    (cond (passes (stations layout itinerary) earliest latest path) Passed NotPassed) e in
+    let theorem = check-travels (asked layout itinerary earliest latest path e) in (
+      (λ q. theorem .0 (passed-is (passes (stations layout itinerary) earliest latest path) (sym verdict ∙ q))),
+      (λ t. verdict ∙ rw (theorem .1 t)),
+    )
+  where
+    passed-is : (b : Bool) → cond b Passed NotPassed ≡ Passed → b ≡ true
+    passed-is true q = refl
+    passed-is false q = let z : _≡_ {A = ℕ} 0 1 = cc in absurd (omega arith)

@@ -1,0 +1,13 @@
+pub mod Quiet
+pub mod Stands
+pub mod Hops
+pub mod Yes
+pub mod Steps
+pub mod Along
+pub mod Facts
+pub mod Parts
+pub mod FirstStation
+pub mod Demand3
+pub mod Readings
+pub mod Stops
+pub mod Consequences

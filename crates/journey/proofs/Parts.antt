@@ -1,0 +1,366 @@
+-- The check by parts, and the facts of each hop: the check passes exactly if each hop is good at every reading from earliest to latest.
+-- Assumes nothing.
+use mathlib.Core.Path.{_≡_, refl, sym, subst, _∙_}
+use mathlib.Core.Bool.{Bool, true, false, not, _&&_, _||_}
+use mathlib.Core.List.{List}
+use Prim.Native.Nat.{ℕ, zero, suc, _+_, _-_, _≤_, _<_}
+use native.Mathlib.Omega.{arith}
+use native.Mathlib.Nat.{le-trans}
+use borrow.Author.Tests.{eqb-true, eqb-false, eq-eqb, ne-eqb, le-leb, lt-leb, leb-true, leb-false, not-true}
+use lib.Dec.{eqb, leb}
+use lib.ListN.{length, getD}
+use Rattle.standard_path.specs.Fields.{seg0Len, seg1Len, seg2Len, consDir, timestamp, expTime, travelIngress, travelEgress, expiry}
+use Rattle.standard_path.specs.Header.{infos, hops, infoField}
+use Rattle.interface_table.specs.Table.{stateOf, pairAllowed}
+use Rattle.interface_table.specs.declared.Listed.{Listed}
+use Rattle.interface_table.specs.declared.Listed.the-variants.{State, Nothing}
+use Rattle.validator.specs.Check.{isListed, linkOf}
+use Rattle.routing.specs.Step.{isUpListed}
+use Rattle.itinerary.specs.Itinerary.{Station}
+use Rattle.journey.specs.Check.{all, longEnough, lengthsFit, macFits, arrivesBy, leavesBy, hopFits, segmentFits, jointFits, startOf, countOf, hopOf, noStation, stationOf, segmentPasses, jointPasses, passes}
+use Rattle.journey.proofs.Yes.{both, first-of, second-of, yes}
+use Rattle.journey.proofs.Hops.{start-next}
+use Rattle.journey.proofs.Along.{linkGood, never}
+use Rattle.journey.proofs.Facts.{Shape, at-most-three, one, two, three, all-long, station-among, start-enough, HopFacts, AllFacts}
+
+-- ---- tests over all numbers below a bound, and either of two tests
+
+pub all-at : (n : ℕ) (holds : ℕ → Bool) → all n holds ≡ true → (k : ℕ) → k < n → holds k ≡ true
+unfolding all
+all-at zero holds e k l = absurd (omega arith)
+all-at (suc n) holds e k l = go (λ m. all-at n holds (first-of (all n holds) (holds n) e) k m) (eqb k n) refl
+  where
+    go : (k < n → holds k ≡ true) → (last : Bool) → eqb k n ≡ last → holds k ≡ true
+    go below true q = rw (eqb-true k n q) (second-of (all n holds) (holds n) e)
+    go below false q = below (omega (arith, eqb-false k n q))
+
+pub all-of : (n : ℕ) (holds : ℕ → Bool) → ((k : ℕ) → k < n → holds k ≡ true) → all n holds ≡ true
+unfolding all
+all-of zero holds f = refl
+all-of (suc n) holds f = both (all-of n holds (λ k l. f k (omega arith))) (f n (omega arith))
+
+other-of : (x y : Bool) → x ≡ false → (x || y) ≡ true → y ≡ true
+other-of x y e h = rw e at h
+
+either : (x y : Bool) → (x ≡ false → y ≡ true) → (x || y) ≡ true
+either true y f = refl
+either false y f = f refl
+
+right : (x y : Bool) → y ≡ true → (x || y) ≡ true
+right true y e = refl
+right false y e = e
+
+-- ---- the lengths
+
+two-or-more : (n : ℕ) → longEnough n ≡ true → eqb n 0 ≡ false → 2 ≤ n
+two-or-more n e f = leb-true 2 n (other-of (eqb n 0) (leb 2 n) f e)
+
+pub fit-shape : (path : List ℕ) → lengthsFit (seg0Len path) (seg1Len path) (seg2Len path) ≡ true → Shape path
+unfolding lengthsFit
+fit-shape path e = go (eqb (seg1Len path) 0) refl (eqb (seg2Len path) 0) refl
+  where
+    first : Bool
+    first = not (eqb (seg0Len path) 0)
+
+    gap : Bool
+    gap = not (eqb (seg1Len path) 0) || eqb (seg2Len path) 0
+
+    up-to-second : (((first && gap) && longEnough (seg0Len path)) && longEnough (seg1Len path)) ≡ true
+    up-to-second = first-of _ (longEnough (seg2Len path)) e
+
+    up-to-first : ((first && gap) && longEnough (seg0Len path)) ≡ true
+    up-to-first = first-of _ (longEnough (seg1Len path)) up-to-second
+
+    begun : (first && gap) ≡ true
+    begun = first-of (first && gap) (longEnough (seg0Len path)) up-to-first
+
+    seg0 : 2 ≤ seg0Len path
+    seg0 = two-or-more (seg0Len path) (second-of (first && gap) _ up-to-first) (not-true _ (first-of first gap begun))
+
+    go : (no1 : Bool) → eqb (seg1Len path) 0 ≡ no1 → (no2 : Bool) → eqb (seg2Len path) 0 ≡ no2 → Shape path
+    go true p true q = one seg0 (eqb-true _ _ p) (eqb-true _ _ q)
+    go true p false q = absurd (never (sym (rw (p, q)) ∙ second-of first gap begun))
+    go false p true q =
+        two seg0 (two-or-more (seg1Len path) (second-of ((first && gap) && longEnough (seg0Len path)) _ up-to-second) p) (eqb-true _ _ q)
+    go false p false q =
+        three seg0 (two-or-more (seg1Len path) (second-of ((first && gap) && longEnough (seg0Len path)) _ up-to-second) p)
+        (two-or-more (seg2Len path) (second-of (((first && gap) && longEnough (seg0Len path)) && longEnough (seg1Len path)) _ e) q)
+
+long-two : (n : ℕ) → 2 ≤ n → longEnough n ≡ true
+long-two n h = right (eqb n 0) (leb 2 n) (le-leb 2 n h)
+
+some-two : (n : ℕ) → 2 ≤ n → not (eqb n 0) ≡ true
+some-two n h = rw (ne-eqb n 0 (λ (e : n ≡ 0). omega arith))
+
+shape-fit : {path : List ℕ} → Shape path → lengthsFit (seg0Len path) (seg1Len path) (seg2Len path) ≡ true
+unfolding lengthsFit
+shape-fit {path} (one a b c) =
+    both (both (both (both (some-two _ a) (rw (eq-eqb _ _ c) (right (not (eqb (seg1Len path) 0)) true refl))) (long-two _ a)) (rw (eq-eqb _ _ b)))
+    (rw (eq-eqb _ _ c))
+shape-fit {path} (two a b c) =
+    both (both (both (both (some-two _ a) (rw (eq-eqb _ _ c) (right (not (eqb (seg1Len path) 0)) true refl))) (long-two _ a)) (long-two _ b))
+    (rw (eq-eqb _ _ c))
+shape-fit {path} (three a b c) =
+    both (both (both (both (some-two _ a) (rw (some-two _ b))) (long-two _ a)) (long-two _ b)) (long-two _ c)
+
+-- ---- what is read of a station that 9 lets in
+
+abbrev letIn : Station → List ℕ → List ℕ → Bool
+letIn station info hop =
+    let into = travelIngress (consDir info) hop in
+    (eqb (station .arrival) 0 || eqb into 0) || eqb into (station .arrival)
+
+local-let-in : (station : Station) (info hop : List ℕ) → station .arrival ≡ 0 → letIn station info hop ≡ true
+local-let-in station info hop e = rw (eq-eqb _ _ e)
+
+arrives-let-in : (station : Station) (info hop : List ℕ) → arrivesBy station info hop ≡ true → letIn station info hop ≡ true
+unfolding arrivesBy
+arrives-let-in station info hop = go (eqb (station .arrival) 0) _ _
+  where
+    go : (x y z : Bool) → (y || z) ≡ true → ((x || y) || z) ≡ true
+    go true y z e = refl
+    go false y z e = e
+
+let-in-arrives : (station : Station) (info hop : List ℕ) → (station .arrival ≡ 0 → ⊥) → letIn station info hop ≡ true
+    → arrivesBy station info hop ≡ true
+unfolding arrivesBy
+let-in-arrives station info hop f e = rw (ne-eqb _ _ f) at e
+
+up-listed : (listed : Listed) → isUpListed listed ≡ true → isListed listed ≡ true
+up-listed (State state) e = refl
+up-listed Nothing e = e
+
+leaves-listed : (station : Station) (info hop : List ℕ) → leavesBy station info hop ≡ true
+    → isListed (stateOf (station .ids) (station .states) (travelEgress (consDir info) hop)) ≡ true
+unfolding leavesBy
+leaves-listed station info hop e = up-listed (stateOf (station .ids) (station .states) (travelEgress (consDir info) hop)) e
+
+-- the stations of a call that 23 lets through: as many as it counts, the first reached from local hosts, the others not
+pub record Counted (path : List ℕ) (stations : List Station) : Type 0 where
+  pub many : length stations + infos path ≡ hops path + 1
+  pub first : getD stations 0 noStation .arrival ≡ 0
+  pub later : (k : ℕ) → 1 ≤ k → k < length stations → getD stations k noStation .arrival ≡ 0 → ⊥
+
+-- the number of the station of hop m of segment t
+abbrev stationIndex : List ℕ → ℕ → ℕ → ℕ
+stationIndex path t m = startOf path t - t + m
+
+module _ {path : List ℕ} {stations : List Station} (shape : Shape path) (counted : Counted path stations) where
+  index-among : (t m : ℕ) → t < infos path → m < countOf path t → stationIndex path t m < length stations
+  index-among t m h w =
+      omega (arith, counted .many, station-among shape t m h w, start-enough shape t h)
+
+  -- a hop of the facts
+  facts-of : (readings : List ℕ) → AllFacts path 0 0 stations readings → (t m : ℕ) → t < infos path → m < countOf path t
+      → HopFacts path (stationOf stations path t m) (getD readings (stationIndex path t m) 0) t m
+  facts-of readings facts t m h w = facts (stationIndex path t m) t m (index-among t m h w) h w (omega (arith, start-enough shape t h))
+
+module _ (stations : List Station) (earliest latest : ℕ) (path : List ℕ) where
+  -- ---- from the check to the facts
+
+  module _ (e : passes stations earliest latest path ≡ true) where
+    abbrev fits : Bool
+    fits = lengthsFit (seg0Len path) (seg1Len path) (seg2Len path)
+
+    begun : (fits && all (infos path) (segmentPasses stations earliest latest path)) ≡ true
+    unfolding passes
+    begun = first-of _ (all (infos path - 1) (jointPasses stations earliest latest path)) e
+
+    pub passes-shape : Shape path
+    passes-shape = fit-shape path (first-of fits _ begun)
+
+    segment-passes : (t : ℕ) → t < infos path → segmentPasses stations earliest latest path t ≡ true
+    segment-passes t h = all-at (infos path) (segmentPasses stations earliest latest path) (second-of fits _ begun) t h
+
+    joint-passes : (t : ℕ) → t + 1 < infos path → jointPasses stations earliest latest path t ≡ true
+    unfolding passes
+    joint-passes t h =
+        all-at (infos path - 1) (jointPasses stations earliest latest path)
+        (second-of (fits && all (infos path) (segmentPasses stations earliest latest path)) _ e) t (omega arith)
+
+    early : (t : ℕ) → t < infos path → timestamp (infoField path t) ≤ earliest
+    unfolding segmentPasses segmentFits
+    early t h = leb-true _ _ (first-of (leb (timestamp (infoField path t)) earliest) _ (segment-passes t h))
+
+    hop-fits : (t m : ℕ) → t < infos path → m < countOf path t
+        → hopFits (stationOf stations path t m) latest (infoField path t) (hopOf path t) (countOf path t) m ≡ true
+    unfolding segmentPasses segmentFits
+    hop-fits t m h w =
+        all-at (countOf path t) (λ m. hopFits (stationOf stations path t m) latest (infoField path t) (hopOf path t) (countOf path t) m)
+        (second-of (leb (timestamp (infoField path t)) earliest) _ (segment-passes t h)) m w
+
+    -- the four tests of a hop
+    record Fitting (t m : ℕ) : Type 0 where
+      late : latest ≤ expiry (timestamp (infoField path t)) (expTime (hopOf path t m))
+      mac : macFits (stationOf stations path t m) (infoField path t) (hopOf path t) m ≡ true
+      came : 1 ≤ m → arrivesBy (stationOf stations path t m) (infoField path t) (hopOf path t m) ≡ true
+      goes : m + 1 < countOf path t → leavesBy (stationOf stations path t m) (infoField path t) (hopOf path t m) ≡ true
+
+    fitting : (t m : ℕ) → t < infos path → m < countOf path t → Fitting t m
+    unfolding hopFits
+    fitting t m h w =
+        let station = stationOf stations path t m in
+        let info = infoField path t in
+        let life = leb latest (expiry (timestamp info) (expTime (hopOf path t m))) in
+        let right-mac = macFits station info (hopOf path t) m in
+        let came = eqb m 0 || arrivesBy station info (hopOf path t m) in
+        let goes = leb (countOf path t) (m + 1) || leavesBy station info (hopOf path t m) in
+        let all-four = hop-fits t m h w in
+        let first-three = first-of ((life && right-mac) && came) goes all-four in
+        let first-two = first-of (life && right-mac) came first-three in
+        record {
+          late = leb-true _ _ (first-of life right-mac first-two);
+          mac = second-of life right-mac first-two;
+          came = λ k. other-of (eqb m 0) _ (ne-eqb m 0 (λ (q : m ≡ 0). omega arith)) (second-of (life && right-mac) came first-three);
+          goes = λ k. other-of (leb (countOf path t) (m + 1)) _ (lt-leb _ _ k) (second-of ((life && right-mac) && came) goes all-four);
+        }
+
+    -- a joint, with its station's number
+    record Joining (station : Station) (t m : ℕ) : Type 0 where
+      listed : isListed (stateOf (station .ids) (station .states) (travelIngress (consDir (infoField path t)) (hopOf path t m))) ≡ true
+      allowed : pairAllowed
+          (linkOf (stateOf (station .ids) (station .states) (travelIngress (consDir (infoField path t)) (hopOf path t m))))
+          (linkOf (stateOf (station .ids) (station .states) (travelEgress (consDir (infoField path (t + 1))) (hopOf path (t + 1) 0))))
+          ≡ true
+      came : arrivesBy station (infoField path (t + 1)) (hopOf path (t + 1) 0) ≡ true
+
+    joining : (t : ℕ) → t + 1 < infos path → Joining (stationOf stations path (t + 1) 0) t (countOf path t - 1)
+    unfolding jointPasses jointFits
+    joining t h =
+        let station = stationOf stations path (t + 1) 0 in
+        let into = stateOf (station .ids) (station .states) (travelIngress (consDir (infoField path t)) (hopOf path t (countOf path t - 1))) in
+        let out = stateOf (station .ids) (station .states) (travelEgress (consDir (infoField path (t + 1))) (hopOf path (t + 1) 0)) in
+        let all-three = joint-passes t h in
+        let first-two = first-of (isListed into && pairAllowed (linkOf into) (linkOf out)) _ all-three in
+        record {
+          listed = first-of (isListed into) _ first-two;
+          allowed = second-of (isListed into) _ first-two;
+          came = second-of (isListed into && pairAllowed (linkOf into) (linkOf out)) _ all-three;
+        }
+
+    module _ (counted : Counted path stations) where
+      -- 9, at the station of a hop
+      abbrev Came : ℕ → ℕ → Type 0
+      Came t m = letIn (stationOf stations path t m) (infoField path t) (hopOf path t m) ≡ true
+
+      came-by : (t m : ℕ) → t < infos path → m < countOf path t → Came t m
+      came-by zero zero h w = local-let-in (stationOf stations path 0 0) (infoField path 0) (hopOf path 0 0) (counted .first)
+      came-by (suc t) zero h w =
+          let more : t + 1 ≡ suc t = omega arith in
+          subst (λ (u : ℕ). Came u 0) more
+          (arrives-let-in (stationOf stations path (t + 1) 0) (infoField path (t + 1)) (hopOf path (t + 1) 0) (joining t (omega arith) .came))
+      came-by t (suc m) h w =
+          arrives-let-in (stationOf stations path t (suc m)) (infoField path t) (hopOf path t (suc m))
+          (fitting t (suc m) h w .came (omega arith))
+
+      -- 14 to 16, at the station of a segment's last hop
+      linked : (t m : ℕ) → t + 1 < infos path → m + 1 ≡ countOf path t → linkGood path (stationOf stations path t m) t m ≡ true
+      unfolding yes
+      linked t m h e =
+          let shape = passes-shape in
+          let long = all-long shape (t + 1) h in
+          let t3 = at-most-three path (t + 1) h in
+          let last : countOf path t - 1 ≡ m = omega arith in
+          let here : stationIndex path (t + 1) 0 ≡ stationIndex path t m =
+          omega (arith, start-next path t (omega arith), start-enough shape t (omega arith)) in
+          let j = joining t h in
+          let out = leaves-listed (stationOf stations path (t + 1) 0) (infoField path (t + 1)) (hopOf path (t + 1) 0)
+          (fitting (t + 1) 0 h (omega arith) .goes (omega arith)) in
+          subst (λ (n : ℕ). linkGood path (stationOf stations path t m) t n ≡ true) last
+          (subst (λ (k : ℕ). linkGood path (getD stations k noStation) t (countOf path t - 1) ≡ true) here
+          (both (j .listed) (both out (both (j .allowed) refl))))
+
+      pub check-facts : (readings : List ℕ) → ((k : ℕ) → k < length stations → earliest ≤ getD readings k 0)
+          → ((k : ℕ) → k < length stations → getD readings k 0 ≤ latest) → AllFacts path 0 0 stations readings
+      unfolding yes macFits
+      check-facts readings low high i t m l h w q =
+          let here : stationIndex path t m ≡ i = omega (arith, start-enough passes-shape t h) in
+          let f = fitting t m h w in
+          subst (λ (k : ℕ). HopFacts path (getD stations k noStation) (getD readings i 0) t m) here
+          (record {
+            good = both (came-by t m h w)
+                (both (le-leb _ _ (le-trans (early t h) (low i l)))
+                (both (le-leb _ _ (le-trans (high i l) (f .late))) (both (f .mac) refl)));
+            way = λ k. f .goes k;
+            link = λ j k. linked t m k j;
+          })
+
+  -- ---- from the facts at the earliest readings and at the latest to the check
+
+  module _ (shape : Shape path) (counted : Counted path stations) (early late : List ℕ)
+      (low : (k : ℕ) → k < length stations → getD early k 0 ≤ earliest) (high : (k : ℕ) → k < length stations → latest ≤ getD late k 0)
+      (at-early : AllFacts path 0 0 stations early) (at-late : AllFacts path 0 0 stations late) where
+    -- what 9 to 12 say of a hop
+    record Told (reading t m : ℕ) : Type 0 where
+      came : letIn (stationOf stations path t m) (infoField path t) (hopOf path t m) ≡ true
+      begun : timestamp (infoField path t) ≤ reading
+      alive : reading ≤ expiry (timestamp (infoField path t)) (expTime (hopOf path t m))
+      mac : macFits (stationOf stations path t m) (infoField path t) (hopOf path t) m ≡ true
+
+    told : (readings : List ℕ) → AllFacts path 0 0 stations readings → (t m : ℕ) → t < infos path → m < countOf path t
+        → Told (getD readings (stationIndex path t m) 0) t m
+    unfolding yes macFits
+    told readings facts t m h w =
+        let reading = getD readings (stationIndex path t m) 0 in
+        let four = facts-of shape counted readings facts t m h w .good in
+        let three = second-of (letIn (stationOf stations path t m) (infoField path t) (hopOf path t m)) _ four in
+        let two = second-of (leb (timestamp (infoField path t)) reading) _ three in
+        let last = second-of (leb reading (expiry (timestamp (infoField path t)) (expTime (hopOf path t m)))) _ two in
+        record {
+          came = first-of (letIn (stationOf stations path t m) (infoField path t) (hopOf path t m)) _ four;
+          begun = leb-true _ _ (first-of (leb (timestamp (infoField path t)) reading) _ three);
+          alive = leb-true _ _ (first-of (leb reading (expiry (timestamp (infoField path t)) (expTime (hopOf path t m)))) _ two);
+          mac = first-of _ true last;
+        }
+
+    -- a station but the first is reached from outside
+    from-outside : (t m : ℕ) → t < infos path → m < countOf path t → 1 ≤ stationIndex path t m
+        → arrivesBy (stationOf stations path t m) (infoField path t) (hopOf path t m) ≡ true
+    from-outside t m h w k =
+        let-in-arrives (stationOf stations path t m) (infoField path t) (hopOf path t m)
+        (counted .later (stationIndex path t m) k (index-among shape counted t m h w)) (told early at-early t m h w .came)
+
+    hop-passes : (t m : ℕ) → t < infos path → m < countOf path t
+        → hopFits (stationOf stations path t m) latest (infoField path t) (hopOf path t) (countOf path t) m ≡ true
+    unfolding hopFits
+    hop-passes t m h w =
+        both
+        (both
+        (both (le-leb _ _ (le-trans (high (stationIndex path t m) (index-among shape counted t m h w)) (told late at-late t m h w .alive)))
+        (told early at-early t m h w .mac))
+        (either (eqb m 0) _ (λ e. from-outside t m h w (omega (arith, eqb-false m 0 e)))))
+        (either (leb (countOf path t) (m + 1)) _ (λ e. facts-of shape counted early at-early t m h w .way (leb-false _ _ e)))
+
+    segment-good : (t : ℕ) → t < infos path → segmentPasses stations earliest latest path t ≡ true
+    unfolding segmentPasses segmentFits
+    segment-good t h =
+        let long = all-long shape t h in
+        let some : 0 < countOf path t = omega arith in
+        both
+        (le-leb _ _ (le-trans (told early at-early t 0 h some .begun) (low (stationIndex path t 0) (index-among shape counted t 0 h some))))
+        (all-of (countOf path t) _ (λ m w. hop-passes t m h w))
+
+    joint-good : (t : ℕ) → t + 1 < infos path → jointPasses stations earliest latest path t ≡ true
+    unfolding jointPasses jointFits yes
+    joint-good t h =
+        let long = all-long shape t (omega arith) in
+        let long-next = all-long shape (t + 1) h in
+        let t3 = at-most-three path (t + 1) h in
+        let enough = start-enough shape t (omega arith) in
+        let next = start-next path t (omega arith) in
+        let m = countOf path t - 1 in
+        let here : stationIndex path t m ≡ stationIndex path (t + 1) 0 = omega arith in
+        let station = stationOf stations path (t + 1) 0 in
+        let into = stateOf (station .ids) (station .states) (travelIngress (consDir (infoField path t)) (hopOf path t m)) in
+        let out = stateOf (station .ids) (station .states) (travelEgress (consDir (infoField path (t + 1))) (hopOf path (t + 1) 0)) in
+        let linked : (isListed into && (isListed out && (pairAllowed (linkOf into) (linkOf out) && true))) ≡ true =
+        subst (λ (k : ℕ). linkGood path (getD stations k noStation) t m ≡ true) here
+        (facts-of shape counted early at-early t m (omega arith) (omega arith) .link (omega arith) h) in
+        both
+        (both (first-of (isListed into) _ linked) (first-of _ true (second-of (isListed out) _ (second-of (isListed into) _ linked))))
+        (from-outside (t + 1) 0 h (omega arith) (omega arith))
+
+    pub facts-check : passes stations earliest latest path ≡ true
+    unfolding passes
+    facts-check =
+        both (both (shape-fit shape) (all-of (infos path) _ segment-good)) (all-of (infos path - 1) _ (λ t h. joint-good t (omega arith)))

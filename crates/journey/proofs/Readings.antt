@@ -1,0 +1,171 @@
+-- The readings do not change the bytes that a journey leaves: where it ended, and what the station answered, tells them.
+-- Assumes nothing.
+use mathlib.Core.Path.{_≡_, refl, ap, sym, _∙_}
+use mathlib.Core.Bool.{Bool, true, false, not, _&&_, cond}
+use mathlib.Core.List.{List, [], _∷_}
+use Prim.Native.Nat.{ℕ, suc, _≤_}
+use native.Mathlib.Omega.{arith}
+use lib.Dec.{eqb}
+use Rattle.standard_path.specs.Fields.{consDir, travelEgress, travelEgressAlert}
+use Rattle.validator.specs.Questions.{firstNo}
+use Rattle.validator.specs.declared.answer.Validation.{Validation}
+use Rattle.validator.specs.declared.answer.Validation.the-variants.{Valid, Invalid}
+use Rattle.validator.specs.declared.answer.LocalAsRoutingAction.the-variants.{IngressSCMPHandleRequest, EgressSCMPHandleRequest, ForwardLocal}
+use Rattle.validator.specs.declared.answer.AsRoutingAction.the-variants.{Local, ForwardNextHop}
+use Rattle.validator.specs.declared.answer.StepAnswer.{StepAnswer}
+use Rattle.validator.specs.declared.answer.StepAnswer.the-variants.{Action, Refused}
+use Rattle.routing.specs.Outcome.{Outcome, asks}
+use Rattle.routing.specs.Place.{before, changes, isFinal, ingressPlace}
+use Rattle.routing.specs.Ingress.{hop, info, ingressMove, alertsAtIngress}
+use Rattle.routing.specs.Egress.{egressAction, egressMove}
+use Rattle.routing.specs.Step.{keyMac}
+use Rattle.routing.proofs.Inside.{insideQuestions}
+use Rattle.routing.proofs.Whole.{step-asks, checks, leavingChecks}
+use Rattle.itinerary.specs.Itinerary.{Station}
+use Rattle.journey.proofs.Yes.{first-of}
+use Rattle.journey.specs.Journey.{stepAt, endedAt, goesOn, someLeft, orEnds, journey}
+
+-- an answer that egress gave, with its move done
+abbrev pub leftByEgress : StepAnswer → Bool
+leftByEgress (Action (ForwardNextHop interface)) = true
+leftByEgress (Action (Local (EgressSCMPHandleRequest interface))) = true
+leftByEgress (Action (Local (IngressSCMPHandleRequest interface))) = false
+leftByEgress (Action (Local ForwardLocal)) = false
+leftByEgress (Refused why) = false
+
+-- the bytes left, told by the station, the path and the answer
+abbrev bytesAfter : Validation → Validation → List ℕ → List ℕ → List ℕ → Bool → List ℕ
+bytesAfter Valid Valid path entered moved egressed = cond egressed moved entered
+bytesAfter Valid (Invalid why) path entered moved egressed = path
+bytesAfter (Invalid why) place path entered moved egressed = path
+
+abbrev pub leftBytes : Station → List ℕ → StepAnswer → List ℕ
+leftBytes station path answer =
+    let entered = ingressMove path (station .arrival) (changes path) in
+    bytesAfter (firstNo (before (station .ids) (station .states) path)) (firstNo (ingressPlace path)) path entered (egressMove entered)
+    (leftByEgress answer)
+
+egress-action-leaves : (path : List ℕ) → leftByEgress (egressAction path) ≡ true
+unfolding egressAction
+egress-action-leaves path =
+    go (travelEgressAlert (consDir (info path)) (hop path)) (eqb (travelEgress (consDir (info path)) (hop path)) 0)
+  where
+    go : (alert none : Bool)
+        → leftByEgress
+        (cond (alert && not none) (Action (Local (EgressSCMPHandleRequest (travelEgress (consDir (info path)) (hop path)))))
+        (Action (ForwardNextHop (travelEgress (consDir (info path)) (hop path)))))
+        ≡ true
+    go true true = refl
+    go true false = refl
+    go false none = refl
+
+pub bytes-by-answer : (station : Station) (reading : ℕ) (path : List ℕ)
+    → stepAt station reading path .bytes ≡ leftBytes station path (stepAt station reading path .answer)
+unfolding stepAt
+bytes-by-answer station reading path =
+    let ids = station .ids in
+    let states = station .states in
+    let mac = keyMac (station .key) in
+    let interface = station .arrival in
+    rw (step-asks ids states mac interface reading false path)
+    (go (firstNo (before ids states path)) (firstNo (ingressPlace path)) (firstNo (checks ids states mac interface reading false path))
+    (alertsAtIngress path interface) (isFinal path) (firstNo (leavingChecks ids states mac interface reading false path))
+    (firstNo (insideQuestions (ingressMove path interface (changes path)))))
+  where
+    go : (first place passed : Validation) (alert final : Bool) (leaving inside : Validation)
+        → let outcome : Outcome StepAnswer =
+        asks Refused first path
+        (asks Refused place path
+        (asks Refused passed (ingressMove path (station .arrival) (changes path))
+        (cond alert
+        (record {
+          answer = Action (Local (IngressSCMPHandleRequest (station .arrival)));
+          bytes = ingressMove path (station .arrival) (changes path);
+        })
+        (cond final (record { answer = Action (Local ForwardLocal); bytes = ingressMove path (station .arrival) (changes path) })
+        (asks Refused leaving (ingressMove path (station .arrival) (changes path))
+        (asks Refused inside (ingressMove path (station .arrival) (changes path))
+        (record {
+          answer = egressAction (ingressMove path (station .arrival) (changes path));
+          bytes = egressMove (ingressMove path (station .arrival) (changes path));
+        }))))))) in
+        outcome .bytes
+        ≡ bytesAfter first place path (ingressMove path (station .arrival) (changes path))
+        (egressMove (ingressMove path (station .arrival) (changes path))) (leftByEgress (outcome .answer))
+    go (Invalid why) place passed alert final leaving inside = refl
+    go Valid (Invalid why) passed alert final leaving inside = refl
+    go Valid Valid (Invalid why) alert final leaving inside = refl
+    go Valid Valid Valid true final leaving inside = refl
+    go Valid Valid Valid false true leaving inside = refl
+    go Valid Valid Valid false false (Invalid why) inside = refl
+    go Valid Valid Valid false false Valid (Invalid why) = refl
+    go Valid Valid Valid false false Valid Valid = rw (egress-action-leaves (ingressMove path (station .arrival) (changes path)))
+
+-- ---- along a journey
+
+on-leaves : (answer : StepAnswer) → goesOn answer ≡ true → leftByEgress answer ≡ true
+unfolding goesOn
+on-leaves (Action (ForwardNextHop interface)) e = refl
+on-leaves (Action (Local action)) e = let z : _≡_ {A = ℕ} 0 1 = cc in absurd (omega arith)
+on-leaves (Refused why) e = let z : _≡_ {A = ℕ} 0 1 = cc in absurd (omega arith)
+
+-- it goes on with the same bytes whatever the reading
+pub on-alike : (station : Station) (first second : ℕ) (path : List ℕ) → goesOn (stepAt station first path .answer) ≡ true
+    → goesOn (stepAt station second path .answer) ≡ true → stepAt station first path .bytes ≡ stepAt station second path .bytes
+on-alike station first second path a b =
+    bytes-by-answer station first path
+    ∙ rw (on-leaves (stepAt station first path .answer) a)
+    (sym (bytes-by-answer station second path ∙ rw (on-leaves (stepAt station second path .answer) b)))
+
+-- a journey ends at its first station or behind it
+ends-behind : (stations : List Station) (readings : List ℕ) (k : ℕ) (path : List ℕ) {j : ℕ} {answer : StepAnswer} {left : List ℕ}
+    → journey k stations readings path ≡ endedAt j answer left → k ≤ j
+unfolding journey
+ends-behind [] readings k path e = let z : _≡_ {A = ℕ} 0 1 = cc in absurd (omega arith)
+ends-behind (station ∷ stations) [] k path e = let z : _≡_ {A = ℕ} 0 1 = cc in absurd (omega arith)
+ends-behind (station ∷ stations) (reading ∷ readings) k path {j} {answer} {left} e =
+    go (goesOn (stepAt station reading path .answer) && someLeft stations)
+    (λ q. ends-behind stations readings (suc k) (stepAt station reading path .bytes) q) e
+  where
+    go : (on : Bool) → (journey (suc k) stations readings (stepAt station reading path .bytes) ≡ endedAt j answer left → suc k ≤ j)
+        → orEnds on k (stepAt station reading path) (journey (suc k) stations readings (stepAt station reading path .bytes))
+        ≡ endedAt j answer left → k ≤ j
+    go true rest q = let l = rest q in omega arith
+    go false rest q = let same : k ≡ j = cc in omega arith
+
+-- two journeys over the same stations, from the same bytes, that end at one station with one answer leave the same bytes
+pub same-bytes : (stations : List Station) (first second : List ℕ) (k : ℕ) (path : List ℕ) {j : ℕ} {answer : StepAnswer}
+    {left1 left2 : List ℕ} → journey k stations first path ≡ endedAt j answer left1 → journey k stations second path ≡ endedAt j answer left2
+    → left1 ≡ left2
+unfolding journey
+same-bytes [] first second k path e f = let z : _≡_ {A = ℕ} 0 1 = cc in absurd (omega arith)
+same-bytes (station ∷ stations) [] second k path e f = let z : _≡_ {A = ℕ} 0 1 = cc in absurd (omega arith)
+same-bytes (station ∷ stations) (reading ∷ first) [] k path e f = let z : _≡_ {A = ℕ} 0 1 = cc in absurd (omega arith)
+same-bytes (station ∷ stations) (reading1 ∷ first) (reading2 ∷ second) k path {j} {answer} {left1} {left2} e f =
+    go (goesOn (stepAt station reading1 path .answer) && someLeft stations) refl
+    (goesOn (stepAt station reading2 path .answer) && someLeft stations) refl
+    (λ q r. same-bytes stations first second (suc k) (stepAt station reading1 path .bytes) q r) e f
+  where
+    go : (on1 : Bool) → (goesOn (stepAt station reading1 path .answer) && someLeft stations) ≡ on1
+        → (on2 : Bool) → (goesOn (stepAt station reading2 path .answer) && someLeft stations) ≡ on2
+        → (journey (suc k) stations first (stepAt station reading1 path .bytes) ≡ endedAt j answer left1
+        → journey (suc k) stations second (stepAt station reading1 path .bytes) ≡ endedAt j answer left2 → left1 ≡ left2)
+        → orEnds on1 k (stepAt station reading1 path) (journey (suc k) stations first (stepAt station reading1 path .bytes))
+        ≡ endedAt j answer left1
+        → orEnds on2 k (stepAt station reading2 path) (journey (suc k) stations second (stepAt station reading2 path .bytes))
+        ≡ endedAt j answer left2 → left1 ≡ left2
+    go true a true b rest e f =
+        let alike = on-alike station reading1 reading2 path (first-of _ (someLeft stations) a) (first-of _ (someLeft stations) b) in
+        rest e (rw alike f)
+    go true a false b rest e f =
+        let l = ends-behind stations first (suc k) (stepAt station reading1 path .bytes) e in
+        let same : k ≡ j = cc in absurd (omega arith)
+    go false a true b rest e f =
+        let l = ends-behind stations second (suc k) (stepAt station reading2 path .bytes) f in
+        let same : k ≡ j = cc in absurd (omega arith)
+    go false a false b rest e f =
+        let answers : stepAt station reading1 path .answer ≡ stepAt station reading2 path .answer = cc in
+        let left-1 : stepAt station reading1 path .bytes ≡ left1 = cc in
+        let left-2 : stepAt station reading2 path .bytes ≡ left2 = cc in
+        sym left-1 ∙ bytes-by-answer station reading1 path ∙ ap (leftBytes station path) answers ∙ sym (bytes-by-answer station reading2 path)
+        ∙ left-2

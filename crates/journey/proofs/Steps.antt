@@ -1,0 +1,243 @@
+-- The whole step at each kind of hop, on a path that stands there.
+-- Assumes nothing.
+use mathlib.Core.Path.{_≡_, refl, ap, sym, subst, _∙_}
+use mathlib.Core.Bool.{true, false}
+use mathlib.Core.List.{List, [], _∷_, _++_}
+use Prim.Native.Nat.{ℕ, _+_, _≤_, _<_}
+use native.Mathlib.Omega.{arith}
+use borrow.Author.Tests.{le-leb}
+use lib.ListN.{length}
+use Rattle.standard_path.specs.Layout.{infoOffset}
+use Rattle.standard_path.specs.Mac.{macChainingBeta}
+use Rattle.standard_path.specs.Fields.{currInf, currHf, setCurrInf, setCurrHf, consDir, segId, timestamp, travelIngress, travelEgress}
+use Rattle.standard_path.specs.Header.{infos, hops, headerSize, infoField, hopField}
+use Rattle.standard_path.proofs.Kept.{Kept, infos-kept, hops-kept, header-size-kept}
+use Rattle.interface_table.specs.Table.{tableSound, stateOf}
+use Rattle.validator.specs.Questions.{Questions, firstNo}
+use Rattle.validator.specs.Check.{hopQuestions, linkQuestions}
+use Rattle.validator.specs.declared.answer.StandardRoutingError.{StandardRoutingError}
+use Rattle.validator.specs.declared.answer.Validation.the-variants.{Valid}
+use Rattle.validator.specs.declared.answer.LocalAsRoutingAction.the-variants.{ForwardLocal}
+use Rattle.validator.specs.declared.answer.AsRoutingAction.the-variants.{Local, ForwardNextHop}
+use Rattle.validator.specs.declared.answer.StepAnswer.{StepAnswer}
+use Rattle.validator.specs.declared.answer.StepAnswer.the-variants.{Action, Refused}
+use Rattle.validator.proofs.Asked.{both-yes, none-asked}
+use Rattle.routing.specs.Outcome.{Outcome, asks}
+use Rattle.routing.specs.Place.{before}
+use Rattle.routing.specs.Ingress.{hop, info, nextHop, nextInfo, ingressSegId, ingressFields, ingressMove, alertsAtIngress, ingressQuestions}
+use Rattle.routing.specs.Egress.{egressAction, egressMove}
+use Rattle.routing.specs.Step.{keyMac, atIngress, leavingQuestions}
+use Rattle.routing.proofs.Touched.{ingress-fields-moved}
+use Rattle.routing.proofs.Inside.{insideQuestions}
+use Rattle.routing.proofs.Whole.{step-asks}
+use Rattle.itinerary.specs.Itinerary.{Station}
+use Rattle.journey.specs.Check.{startOf, countOf, hopOf, chainedSegId, macsFrom}
+use Rattle.journey.specs.Journey.{stepAt}
+use Rattle.journey.proofs.Quiet.{Quiet, quiet-ingress, quiet-egress}
+use Rattle.journey.proofs.Stands.{Stands, checkedSegId, arrivingSegId, enters, segments-on}
+use Rattle.journey.proofs.Hops.{Hop, middle, last, joint, placed, inside-middle, in-header, next-in-header, start-next, before-end}
+
+-- what 2, 3, 4 and 25 let through
+pub record Given (path : List ℕ) : Type 0 where
+  pub room : headerSize path ≤ length path
+  pub few : hops path ≤ 64
+  pub quiet : (j : ℕ) → j < hops path → Quiet (hopField path j)
+
+-- a station whose table is sound, reached at hop m of segment t: the first from local hosts, at hop 0; the others from outside
+pub record Reached (station : Station) (m : ℕ) : Type 0 where
+  pub sound : tableSound (station .ids) (station .states) ≡ true
+  pub local : m ≡ 0 → station .arrival ≡ 0
+  pub outside : 1 ≤ m → station .arrival ≡ 0 → ⊥
+
+-- 1 to 4 are answered yes all the way
+pub before-asked : {path mid : List ℕ} (ids states : List ℕ) → Given path → Kept path mid → tableSound ids states ≡ true
+    → firstNo (before ids states mid) ≡ Valid
+unfolding headerSize
+before-asked {path} ids states g kept sound =
+    both-yes _ _ _ sound
+    (both-yes _ _ _ (rw (kept .size) (le-leb 4 (length path) (omega (arith, g .room))))
+    (both-yes _ _ _ (rw (header-size-kept kept, kept .size) (le-leb _ _ (g .room)))
+    (both-yes _ _ _ (rw (hops-kept kept) (le-leb _ _ (g .few))) none-asked)))
+
+-- 9 to 12 of hop m of segment t
+abbrev pub hopTests : List ℕ → Station → ℕ → ℕ → ℕ → Questions
+hopTests path station reading t m =
+    hopQuestions (keyMac (station .key)) (atIngress (station .arrival) reading false) (startOf path t + m) (hopOf path t m)
+    (infoField path t) (checkedSegId path t m)
+
+-- 14 to 16 from hop m of segment t to the next segment's first
+abbrev pub linkTests : List ℕ → Station → ℕ → ℕ → Questions
+linkTests path station t m =
+    linkQuestions (stateOf (station .ids) (station .states) (travelIngress (consDir (infoField path t)) (hopOf path t m)))
+    (stateOf (station .ids) (station .states) (travelEgress (consDir (infoField path (t + 1))) (hopOf path (t + 1) 0)))
+    (startOf path t + m) (hopOf path t m) (infoField path t) (hopOf path (t + 1) 0) (infoField path (t + 1))
+
+-- a question that is answered yes can be left out
+without-yes : (first : Questions) (why : StandardRoutingError) (more : Questions)
+    → firstNo (first ++ ((true, why) ∷ more)) ≡ firstNo (first ++ more)
+unfolding firstNo
+without-yes [] why more = refl
+without-yes ((true, other) ∷ first) why more = without-yes first why more
+without-yes ((false, other) ∷ first) why more = refl
+
+-- 15 and 17 of the interface that hop m of segment t leaves by
+abbrev pub wayOf : List ℕ → ℕ → ℕ → ℕ
+wayOf path t m = travelEgress (consDir (infoField path t)) (hopOf path t m)
+
+abbrev pub leavingTests : List ℕ → Station → ℕ → ℕ → List ℕ → Questions
+leavingTests path station t m after =
+    leavingQuestions (stateOf (station .ids) (station .states) (wayOf path t m)) (wayOf path t m) after
+
+-- the path after ingress, and behind a segment change
+abbrev pub enteredAt : List ℕ → Station → List ℕ
+enteredAt mid station = ingressFields mid (station .arrival)
+
+abbrev pub crossedAt : List ℕ → Station → List ℕ
+crossedAt mid station = setCurrInf (setCurrHf (enteredAt mid station) (currHf mid + 1)) (currInf mid + 1)
+
+-- on the way out from hop m of segment t: forwarded; then with what is left to ask at egress, and with 15 and 17
+abbrev pub forwarded : List ℕ → ℕ → ℕ → List ℕ → Outcome StepAnswer
+forwarded path t m left = record { answer = Action (ForwardNextHop (wayOf path t m)); bytes = egressMove left }
+
+abbrev pub insideThen : List ℕ → Outcome StepAnswer → Outcome StepAnswer
+insideThen left more = asks Refused (firstNo (insideQuestions left)) left more
+
+abbrev pub leavingThen : List ℕ → Station → ℕ → ℕ → List ℕ → Outcome StepAnswer → Outcome StepAnswer
+leavingThen path station t m left more = asks Refused (firstNo (leavingTests path station t m left)) left more
+
+-- all that is checked at a segment change
+abbrev pub changeTests : List ℕ → Station → ℕ → ℕ → ℕ → Questions
+changeTests path station reading t m =
+    hopTests path station reading t m ++ (linkTests path station t m ++ hopTests path station reading (t + 1) 0)
+
+module _ {path mid : List ℕ} {t m : ℕ} (g : Given path) (s : Stands path mid t m (arrivingSegId path t m)) (h : Hop path t m)
+    {station : Station} (r : Reached station m) (reading : ℕ) where
+  pub inside : t < infos path
+  inside = in-header path t (h .third) (h .long)
+
+  abbrev after : List ℕ
+  after = enteredAt mid station
+
+  pub quiet-here : Quiet (hopOf path t m)
+  quiet-here = g .quiet (startOf path t + m) (omega (arith, before-end path t (h .third), h .within))
+
+  pub stands-after : Stands path after t m (checkedSegId path t m)
+  stands-after = enters (g .room) inside s quiet-here (station .arrival) (r .local) (r .outside)
+
+  before-valid : firstNo (before (station .ids) (station .states) mid) ≡ Valid
+  before-valid = before-asked (station .ids) (station .states) g (s .kept) (r .sound)
+
+  hop-here : hop mid ≡ hopOf path t m
+  hop-here = rw (s .hf, s .hop-same)
+
+  dir-here : consDir (info mid) ≡ consDir (infoField path t)
+  dir-here = rw (s .inf) (s .info-same t .dir)
+
+  start-here : timestamp (info mid) ≡ timestamp (infoField path t)
+  start-here = rw (s .inf) (s .info-same t .start)
+
+  seg-here : ingressSegId mid (station .arrival) ≡ checkedSegId path t m
+  unfolding headerSize
+  seg-here =
+      let among : currInf mid < infos mid = rw (s .inf, infos-kept (s .kept)) inside in
+      let long : infoOffset (currInf mid) + 8 ≤ length mid = rw (s .inf, s .kept .size) (omega (arith, g .room, inside)) in
+      let e = ingress-fields-moved mid among (station .arrival) long .seg in
+      sym e ∙ ap (λ (i : ℕ). segId (infoField after i)) (s .inf) ∙ stands-after .seg
+
+  hop-asked : hopQuestions (keyMac (station .key)) (atIngress (station .arrival) reading false) (currHf mid) (hop mid) (info mid)
+      (ingressSegId mid (station .arrival))
+      ≡ hopTests path station reading t m
+  hop-asked = rw (seg-here, hop-here, dir-here, start-here, s .hf)
+
+  no-alert : alertsAtIngress mid (station .arrival) ≡ false
+  no-alert = rw (hop-here, quiet-ingress quiet-here (consDir (info mid)))
+
+  -- ---- in the middle of a segment
+
+  module _ (more : m + 1 < countOf path t) where
+    goes-out : egressAction after ≡ Action (ForwardNextHop (wayOf path t m))
+    unfolding egressAction
+    goes-out =
+        let a = stands-after in
+        let e : hop after ≡ hopOf path t m = ap (hopField after) (a .hf) ∙ a .hop-same _ in
+        let d : consDir (info after) ≡ consDir (infoField path t) = ap (λ (i : ℕ). consDir (infoField after i)) (a .inf) ∙ a .info-same t .dir in
+        rw (e, d, quiet-egress quiet-here (consDir (infoField path t)))
+
+    pub middle-step : stepAt station reading mid
+        ≡ asks Refused (firstNo (hopTests path station reading t m)) after (leavingThen path station t m after (forwarded path t m after))
+    unfolding stepAt ingressMove
+    middle-step =
+        let p = placed s h (middle more) in
+        step-asks (station .ids) (station .states) (keyMac (station .key)) (station .arrival) reading false mid
+        ∙ rw (before-valid, p .valid, p .changing, p .ending, no-alert)
+        (rw (hop-asked, inside-middle stands-after h more, goes-out, hop-here, dir-here))
+
+  -- ---- the last hop of the path
+
+  pub last-step : m + 1 ≡ countOf path t → startOf path t + m + 1 ≡ hops path
+      → stepAt station reading mid
+      ≡ asks Refused (firstNo (hopTests path station reading t m)) after (record { answer = Action (Local ForwardLocal); bytes = after })
+  unfolding stepAt ingressMove
+  last-step e f =
+      let p = placed s h (last e f) in
+      step-asks (station .ids) (station .states) (keyMac (station .key)) (station .arrival) reading false mid
+      ∙ rw (before-valid, p .valid, p .changing, p .ending, no-alert) (rw hop-asked)
+
+  -- ---- a segment change
+
+  module _ (e : m + 1 ≡ countOf path t) (f : startOf path t + m + 1 < hops path) where
+    abbrev crossed : List ℕ
+    crossed = crossedAt mid station
+
+    pub behind : (t < 2) × (t + 1 < infos path)
+    behind = next-in-header path t (h .third) (h .long) (omega arith)
+
+    next-index : currHf mid + 1 ≡ startOf path (t + 1) + 0
+    next-index = omega (arith, s .hf, start-next path t (behind .0))
+
+    next-hop : nextHop mid ≡ hopOf path (t + 1) 0
+    next-hop = rw (next-index, s .hop-same)
+
+    next-info : nextInfo mid ≡ infoField path (t + 1)
+    next-info = rw (s .inf) (s .later (t + 1) (omega arith))
+
+    next-seg : segId (infoField path (t + 1)) ≡ checkedSegId path (t + 1) 0
+    unfolding chainedSegId macsFrom macChainingBeta
+    next-seg = refl
+
+    pub quiet-next : Quiet (hopOf path (t + 1) 0)
+    quiet-next = g .quiet (startOf path (t + 1) + 0) (omega (arith, start-next path t (behind .0)))
+
+    pub stands-crossed : Stands path crossed (t + 1) 0 (checkedSegId path (t + 1) 0)
+    stands-crossed =
+        let few : currHf mid + 1 < 64 = omega (arith, s .hf, g .few) in
+        subst (λ (u : ℕ). Stands path (setCurrInf (setCurrHf after (currHf mid + 1)) u) (t + 1) 0 (checkedSegId path (t + 1) 0))
+        (ap (λ (u : ℕ). u + 1) (sym (s .inf)))
+        (segments-on stands-after (g .room) inside (currHf mid + 1) (t + 1) next-index few (omega arith) (behind .1))
+
+    goes-across : egressAction crossed ≡ Action (ForwardNextHop (wayOf path (t + 1) 0))
+    unfolding egressAction
+    goes-across =
+        let a = stands-crossed in
+        let e : hop crossed ≡ hopOf path (t + 1) 0 = ap (hopField crossed) (a .hf) ∙ a .hop-same _ in
+        let d : consDir (info crossed) ≡ consDir (infoField path (t + 1)) =
+        ap (λ (i : ℕ). consDir (infoField crossed i)) (a .inf) ∙ a .info-same (t + 1) .dir in
+        rw (e, d, quiet-egress quiet-next (consDir (infoField path (t + 1))))
+
+    change-asked : firstNo
+        (ingressQuestions (station .ids) (station .states) (keyMac (station .key)) (atIngress (station .arrival) reading false) mid true)
+        ≡ firstNo (changeTests path station reading t m)
+    change-asked =
+        rw (seg-here, hop-here, dir-here, start-here, next-hop, next-info, next-index, next-seg, s .hf)
+        (rw (quiet-egress quiet-here (consDir (infoField path t)), quiet-ingress quiet-next (consDir (infoField path (t + 1))))
+        (without-yes (hopTests path station reading t m) _ _ ∙ without-yes (hopTests path station reading t m) _ _))
+
+    pub joint-step : stepAt station reading mid
+        ≡ asks Refused (firstNo (changeTests path station reading t m)) crossed
+        (leavingThen path station (t + 1) 0 crossed (insideThen crossed (forwarded path (t + 1) 0 crossed)))
+    unfolding stepAt ingressMove
+    joint-step =
+        let p = placed s h (joint e f) in
+        step-asks (station .ids) (station .states) (keyMac (station .key)) (station .arrival) reading false mid
+        ∙ rw (before-valid, p .valid, p .changing, p .ending, no-alert)
+        (rw (change-asked, goes-across, next-hop, next-info))

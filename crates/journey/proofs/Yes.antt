@@ -1,0 +1,98 @@
+-- Whether all questions of a list are answered yes; what goes through them.
+-- Assumes nothing.
+use mathlib.Core.Path.{_≡_, refl, ap, sym, _∙_}
+use mathlib.Core.Bool.{Bool, true, false, _&&_}
+use mathlib.Core.List.{List, [], _∷_, _++_}
+use Prim.Native.Nat.{ℕ}
+use native.Mathlib.Omega.{arith}
+use Rattle.validator.specs.Questions.{Questions, firstNo}
+use Rattle.validator.specs.declared.answer.StandardRoutingError.{StandardRoutingError}
+use Rattle.validator.specs.declared.answer.Validation.{Validation}
+use Rattle.validator.specs.declared.answer.Validation.the-variants.{Valid, Invalid}
+use Rattle.validator.specs.declared.answer.StepAnswer.{StepAnswer}
+use Rattle.validator.specs.declared.answer.StepAnswer.the-variants.{Refused}
+use Rattle.routing.specs.Outcome.{Outcome, asks}
+
+-- ---- conjunctions
+
+pub both : {x y : Bool} → x ≡ true → y ≡ true → (x && y) ≡ true
+both {x} {y} a b = rw a b
+
+pub first-of : (x y : Bool) → (x && y) ≡ true → x ≡ true
+first-of true y e = refl
+first-of false y e = e
+
+pub second-of : (x y : Bool) → (x && y) ≡ true → y ≡ true
+second-of true y e = e
+second-of false y e = let z : _≡_ {A = ℕ} 0 1 = cc in absurd (omega arith)
+
+pub and-assoc : (x y z : Bool) → ((x && y) && z) ≡ (x && (y && z))
+and-assoc true y z = refl
+and-assoc false y z = refl
+
+pub and-true : (x : Bool) → (x && true) ≡ x
+and-true true = refl
+and-true false = refl
+
+pub and-false : (x : Bool) → (x && false) ≡ false
+and-false true = refl
+and-false false = refl
+
+-- two tests that say the same
+pub same-bool : (x y : Bool) → (x ≡ true → y ≡ true) → (y ≡ true → x ≡ true) → x ≡ y
+same-bool true y f g = sym (f refl)
+same-bool false true f g = g refl
+same-bool false false f g = refl
+
+-- ---- questions
+
+abbrev pub isValid : Validation → Bool
+isValid Valid = true
+isValid (Invalid why) = false
+
+unfoldable pub yes : Questions → Bool
+yes [] = true
+yes (question ∷ more) = question .0 && yes more
+
+pub valid-yes : (qs : Questions) → isValid (firstNo qs) ≡ yes qs
+unfolding firstNo yes
+valid-yes [] = refl
+valid-yes ((true, why) ∷ more) = valid-yes more
+valid-yes ((false, why) ∷ more) = refl
+
+pub yes-valid : (qs : Questions) → yes qs ≡ true → firstNo qs ≡ Valid
+yes-valid qs e = go (firstNo qs) refl
+  where
+    go : (v : Validation) → firstNo qs ≡ v → firstNo qs ≡ Valid
+    go Valid q = q
+    go (Invalid why) q =
+        let u : isValid (Invalid why) ≡ true = ap isValid (sym q) ∙ valid-yes qs ∙ e in
+        let z : _≡_ {A = ℕ} 0 1 = cc in absurd (omega arith)
+
+pub yes-append : (qs rs : Questions) → yes (qs ++ rs) ≡ (yes qs && yes rs)
+unfolding yes
+yes-append [] rs = refl
+yes-append (q ∷ qs) rs = ap (λ (x : Bool). q .0 && x) (yes-append qs rs) ∙ sym (and-assoc (q .0) (yes qs) (yes rs))
+
+-- ---- through them: of an answer that is no refusal
+
+module _ (holds : StepAnswer → Bool) (none : (why : StandardRoutingError) → holds (Refused why) ≡ false) where
+  pub through : (qs : Questions) (left : List ℕ) (more : Outcome StepAnswer)
+      → holds (asks Refused (firstNo qs) left more .answer) ≡ (yes qs && holds (more .answer))
+  through qs left more = go (firstNo qs) ∙ ap (λ (x : Bool). x && holds (more .answer)) (valid-yes qs)
+    where
+      go : (v : Validation) → holds (asks Refused v left more .answer) ≡ (isValid v && holds (more .answer))
+      go Valid = refl
+      go (Invalid why) = none why
+
+  -- the second of two lists that such an answer has come through
+  pub second-through : (qs rs : Questions) (left after : List ℕ) (more : Outcome StepAnswer)
+      → holds (asks Refused (firstNo qs) left (asks Refused (firstNo rs) after more) .answer) ≡ true → yes rs ≡ true
+  second-through qs rs left after more e =
+      first-of (yes rs) (holds (more .answer))
+      (sym (through rs after more)
+      ∙ second-of (yes qs) _ (sym (through qs left (asks Refused (firstNo rs) after more)) ∙ e))
+
+pub passed-through : (qs : Questions) (left : List ℕ) (more : Outcome StepAnswer) → yes qs ≡ true
+    → asks Refused (firstNo qs) left more ≡ more
+passed-through qs left more e = rw (yes-valid qs e)
