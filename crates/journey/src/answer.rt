@@ -1,4 +1,6 @@
 // What the journey check answers.
+ghost use mathlib.Core.Path.{_≡_};
+ghost use Rattle.journey.specs.Verdict.{journeyNumber};
 
 // Why a call is refused.
 pub enum JourneyError {
@@ -15,4 +17,18 @@ pub enum Verdict {
     Passed,
     NotPassed,
     Refused(JourneyError),
+}
+
+// 01's number of a refusal.
+pub fn journey_number(error: JourneyError) -> u8
+    ensures { λ r. ⌜ r ≡ journeyNumber error ⌝ }
+{
+    match error {
+        JourneyError::MetaTooShort => 2,
+        JourneyError::DataTooShort => 3,
+        JourneyError::TooManyHops => 4,
+        JourneyError::UnfitItinerary => 23,
+        JourneyError::NotAtStart => 24,
+        JourneyError::AlertSet => 25,
+    }
 }

@@ -1,0 +1,12 @@
+use borrow.Author.Needs.{needs}
+use mathlib.Core.Path.{ap, _∙_}
+use Rattle.exports.specs.Reply.{stepReply}
+use Rattle.exports.proofs.calls.scion_handle_standard_path.Statement.{statement}
+use Rattle.exports.proofs.calls.scion_handle_standard_path.Tie as tie
+
+returns : tie.Need-returns
+returns c = (c .step-reply .ensures ∙ ap stepReply (c .before .before .before .handle-standard-path .ensures .0), c .before .before .before .handle-standard-path .ensures .1)
+
+pub scion-handle-standard-path-spec : {M : Type 1} → statement M
+scion-handle-standard-path-spec =
+    tie.close (tie.spec (λ c κs. search needs) (λ c κs. search needs) (λ c. search needs) returns)

@@ -1,0 +1,27 @@
+use borrow.Author.Needs.{needs}
+use mathlib.Core.Path.{_∙_}
+use Rattle.exports.specs.Reply.{segmentReply}
+use Rattle.exports.proofs.reply.segment_reply.Statement.{statement}
+use Rattle.exports.proofs.reply.segment_reply.Tie as tie
+
+returns : tie.Need-returns
+unfolding segmentReply
+returns c = rw (c .before .before .before .before .answer .given .1) (c .plain .ensures ∙ rw (c .before .before .flag .ensures, c .before .flag2 .ensures))
+
+returns-2 : tie.Need-returns-2
+unfolding segmentReply
+returns-2 c = rw (c .before .enum-told .given .1) (c .number-reply .ensures)
+
+pub segment-reply-spec : {M : Type 1} → statement M
+segment-reply-spec =
+    tie.close
+    (tie.spec
+    (λ c. search needs)
+    (λ c. search needs)
+    (λ c κs. search needs)
+    (λ c κs. search needs)
+    (λ c κs. search needs)
+    (λ c. search needs)
+    (λ c κs. search needs)
+    returns
+    returns-2)

@@ -1,0 +1,83 @@
+-- Answers as numbers: 01's for refusals, and numbers from 100 on for what is done with a packet.
+-- Assumes nothing.
+use Prim.Native.Nat.{ℕ}
+use mathlib.Core.List.{List, [], _∷_}
+use lib.ListN.{length}
+use Rattle.standard_path.specs.declared.segments.PathExpiration.{PathExpiration}
+use Rattle.standard_path.specs.declared.segments.PathExpiration.the-variants as expiring
+use Rattle.standard_path.specs.declared.view.SegmentIndex.{SegmentIndex}
+use Rattle.standard_path.specs.declared.view.SegmentIndex.the-variants as segment
+use Rattle.reverse.specs.Reverse.{reverseNumber}
+use Rattle.reverse.specs.declared.Reversal.{Reversal}
+use Rattle.reverse.specs.declared.Reversal.the-variants.{Reversed, Failed}
+use Rattle.validator.specs.Answer.{refusalNumber, refusalValues, fourValues, flag}
+use Rattle.validator.specs.Scmp.{toScmpError}
+use Rattle.validator.specs.declared.answer.StandardRoutingError.{StandardRoutingError}
+use Rattle.validator.specs.declared.answer.LocalAsRoutingAction.{LocalAsRoutingAction}
+use Rattle.validator.specs.declared.answer.LocalAsRoutingAction.the-variants.{IngressSCMPHandleRequest, EgressSCMPHandleRequest, ForwardLocal}
+use Rattle.validator.specs.declared.answer.AsRoutingAction.{AsRoutingAction}
+use Rattle.validator.specs.declared.answer.AsRoutingAction.the-variants.{Local, ForwardNextHop}
+use Rattle.validator.specs.declared.answer.IngressNextAction.{IngressNextAction}
+use Rattle.validator.specs.declared.answer.IngressNextAction.the-variants as ingress
+use Rattle.validator.specs.declared.answer.StepAnswer.{StepAnswer}
+use Rattle.validator.specs.declared.answer.StepAnswer.the-variants.{Action, Refused}
+use Rattle.validator.specs.declared.scmp.ScmpError.{ScmpError}
+use Rattle.validator.specs.declared.scmp.ScmpError.the-variants.{NoMessage, ParameterProblem, ExternalInterfaceDown}
+use Rattle.journey.specs.Verdict.{journeyNumber}
+use Rattle.journey.specs.declared.answer.Verdict.{Verdict}
+use Rattle.journey.specs.declared.answer.Verdict.the-variants as verdict
+use Rattle.exports.specs.declared.reply.Reply.{Reply}
+
+-- with an SCMP error: type, code, and pointer or interface; type 0 for none
+abbrev pub reply : ℕ → List ℕ → ScmpError → Reply
+reply number values NoMessage =
+    record { number = number; count = length values; values = fourValues values; kind = 0; code = 0; pointer = 0 }
+reply number values (ParameterProblem code pointer) =
+    record { number = number; count = length values; values = fourValues values; kind = 4; code = code; pointer = pointer }
+reply number values (ExternalInterfaceDown interface) =
+    record { number = number; count = length values; values = fourValues values; kind = 5; code = 0; pointer = interface }
+
+unfoldable pub refusalReply : StandardRoutingError → Reply
+refusalReply why = reply (refusalNumber why) (refusalValues why) (toScmpError why)
+
+-- ---- what is done with a packet
+
+abbrev pub localReply : LocalAsRoutingAction → Reply
+localReply ForwardLocal = reply 102 [] NoMessage
+localReply (IngressSCMPHandleRequest interface) = reply 103 (interface ∷ []) NoMessage
+localReply (EgressSCMPHandleRequest interface) = reply 104 (interface ∷ []) NoMessage
+
+unfoldable pub actionReply : AsRoutingAction → Reply
+actionReply (ForwardNextHop interface) = reply 101 (interface ∷ []) NoMessage
+actionReply (Local action) = localReply action
+
+unfoldable pub stepReply : StepAnswer → Reply
+stepReply (Action action) = actionReply action
+stepReply (Refused why) = refusalReply why
+
+unfoldable pub ingressReply : IngressNextAction → Reply
+ingressReply (ingress.ContinueEgress interface) = reply 100 (interface ∷ []) NoMessage
+ingressReply (ingress.Complete action) = actionReply action
+ingressReply (ingress.Refused why) = refusalReply why
+
+-- ---- the other calls
+
+unfoldable pub reversalReply : Reversal → Reply
+reversalReply Reversed = reply 110 [] NoMessage
+reversalReply (Failed error) = reply (reverseNumber error) [] NoMessage
+
+unfoldable pub expirationReply : PathExpiration → Reply
+expirationReply (expiring.At time) = reply 111 (time ∷ []) NoMessage
+expirationReply expiring.MetaTooShort = reply 2 [] NoMessage
+expirationReply expiring.DataTooShort = reply 3 [] NoMessage
+expirationReply expiring.TooManyHops = reply 4 [] NoMessage
+
+-- the segment, and whether the hop is its first, and its last
+unfoldable pub segmentReply : SegmentIndex → Reply
+segmentReply (segment.At index start end) = reply 112 (index ∷ flag start ∷ flag end ∷ []) NoMessage
+segmentReply segment.OutOfBounds = reply 5 [] NoMessage
+
+unfoldable pub journeyReply : Verdict → Reply
+journeyReply verdict.Passed = reply 120 [] NoMessage
+journeyReply verdict.NotPassed = reply 121 [] NoMessage
+journeyReply (verdict.Refused error) = reply (journeyNumber error) [] NoMessage

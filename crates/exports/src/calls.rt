@@ -1,0 +1,175 @@
+// The calls of C. Each takes any bytes, numbers and lengths; a null or dangling pointer, or a length that is not the buffer's, is the
+// caller's fault.
+use crate::reply;
+use crate::reply::Reply;
+use aes_cmac::cmac;
+use journey_check::questions;
+use routing::step;
+use standard_path::mac;
+use standard_path::segments;
+use standard_path::view;
+ghost use mathlib.Core.Path.{_≡_};
+ghost use Rattle.aes_cmac.specs.Cmac.{aesCmac};
+ghost use Rattle.standard_path.specs.Mac.{hopMac};
+ghost use Rattle.standard_path.specs.Header.{segmentIndex};
+ghost use Rattle.standard_path.specs.Segments.{expiration};
+ghost use Rattle.reverse.specs.Reverse.{reverseAnswer, reverseBytes};
+ghost use Rattle.routing.specs.Ingress.{ingress};
+ghost use Rattle.routing.specs.Egress.{egress};
+ghost use Rattle.routing.specs.Step.{keyMac, atIngress, atEgress, step};
+ghost use Rattle.itinerary.specs.Layout.{narrow};
+ghost use Rattle.journey.specs.Verdict.{journeyCheck};
+ghost use Rattle.exports.specs.Reply.{stepReply, ingressReply, reversalReply, expirationReply, segmentReply, journeyReply};
+
+// ---- the step
+
+#[no_mangle]
+pub extern "C" fn scion_handle_standard_path(
+    ids: &[u16],
+    states: &[u8],
+    path: &mut [u8],
+    ingress_interface_id: u16,
+    time: u32,
+    forwarding_key: &[u8; 16],
+    ignore_macs: bool,
+) -> Reply
+    ensures { λ r. ⌜ r ≡ stepReply (step (now (ids .entry)) (now (states .entry)) (keyMac (now («forwarding_key» .entry)))
+        «ingress_interface_id» time «ignore_macs» (now (path .entry)) .answer) ⌝ }
+    ensures { λ _. ⌜ now (path .exit) ≡ step (now (ids .entry)) (now (states .entry)) (keyMac (now («forwarding_key» .entry)))
+        «ingress_interface_id» time «ignore_macs» (now (path .entry)) .bytes ⌝ }
+{
+    let answer = step::handle_standard_path(
+        ids,
+        states,
+        path,
+        ingress_interface_id,
+        time,
+        forwarding_key,
+        ignore_macs,
+    );
+    reply::step_reply(answer)
+}
+
+#[no_mangle]
+pub extern "C" fn scion_standard_path_ingress(
+    ids: &[u16],
+    states: &[u8],
+    path: &mut [u8],
+    ingress_interface_id: u16,
+    time: u32,
+    forwarding_key: &[u8; 16],
+    ignore_macs: bool,
+) -> Reply
+    ensures { λ r. ⌜ r ≡ ingressReply (ingress (now (ids .entry)) (now (states .entry)) (keyMac (now («forwarding_key» .entry)))
+        (atIngress «ingress_interface_id» time «ignore_macs») (now (path .entry)) .answer) ⌝ }
+    ensures { λ _. ⌜ now (path .exit) ≡ ingress (now (ids .entry)) (now (states .entry)) (keyMac (now («forwarding_key» .entry)))
+        (atIngress «ingress_interface_id» time «ignore_macs») (now (path .entry)) .bytes ⌝ }
+{
+    let answer = step::standard_path_ingress(
+        ids,
+        states,
+        path,
+        ingress_interface_id,
+        time,
+        forwarding_key,
+        ignore_macs,
+    );
+    reply::ingress_reply(answer)
+}
+
+#[no_mangle]
+pub extern "C" fn scion_standard_path_egress(
+    ids: &[u16],
+    states: &[u8],
+    path: &mut [u8],
+    egress_if_id: u16,
+    time: u32,
+    forwarding_key: &[u8; 16],
+    ignore_macs: bool,
+) -> Reply
+    ensures { λ r. ⌜ r ≡ stepReply (egress (now (ids .entry)) (now (states .entry)) (keyMac (now («forwarding_key» .entry)))
+        (atEgress «egress_if_id» time «ignore_macs») (now (path .entry)) .answer) ⌝ }
+    ensures { λ _. ⌜ now (path .exit) ≡ egress (now (ids .entry)) (now (states .entry)) (keyMac (now («forwarding_key» .entry)))
+        (atEgress «egress_if_id» time «ignore_macs») (now (path .entry)) .bytes ⌝ }
+{
+    let answer = step::standard_path_egress(
+        ids,
+        states,
+        path,
+        egress_if_id,
+        time,
+        forwarding_key,
+        ignore_macs,
+    );
+    reply::step_reply(answer)
+}
+
+// ---- the path by itself
+
+#[no_mangle]
+pub extern "C" fn scion_try_reverse(path: &mut [u8]) -> Reply
+    ensures { λ r. ⌜ r ≡ reversalReply (reverseAnswer (now (path .entry))) ⌝ }
+    ensures { λ _. ⌜ now (path .exit) ≡ reverseBytes (now (path .entry)) ⌝ }
+{
+    let answer = reverse::try_reverse(path);
+    reply::reversal_reply(answer)
+}
+
+#[no_mangle]
+pub extern "C" fn scion_expiration(path: &[u8]) -> Reply
+    ensures { λ r. ⌜ r ≡ expirationReply (expiration (now (path .entry))) ⌝ }
+{
+    reply::expiration_reply(segments::expiration(path))
+}
+
+#[no_mangle]
+pub extern "C" fn scion_calculate_segment_index(path: &[u8], hop_idx: u8) -> Reply
+    ensures { λ r. ⌜ r ≡ segmentReply (segmentIndex (now (path .entry)) «hop_idx») ⌝ }
+{
+    reply::segment_reply(view::calculate_segment_index(path, hop_idx))
+}
+
+// ---- the journey check
+
+#[no_mangle]
+pub extern "C" fn scion_check_journey(
+    path: &[u8],
+    itinerary: &[u8],
+    earliest: u32,
+    latest: u32,
+) -> Reply
+    ensures { λ r. ⌜ r ≡ journeyReply (journeyCheck narrow (now (itinerary .entry)) earliest latest (now (path .entry))) ⌝ }
+{
+    reply::journey_reply(questions::check_journey(path, itinerary, earliest, latest))
+}
+
+// ---- MACs
+
+#[no_mangle]
+pub extern "C" fn scion_aes_cmac(key: &[u8; 16], message: &[u8], mac: &mut [u8; 16])
+    ensures { λ _. ⌜ now (mac .exit) ≡ aesCmac (now (key .entry)) (now (message .entry)) ⌝ }
+{
+    *mac = cmac::aes_cmac(*key, message);
+}
+
+#[no_mangle]
+pub extern "C" fn scion_calculate_hop_mac(
+    segment_id: u16,
+    timestamp: u32,
+    exp_time: u8,
+    cons_ingress: u16,
+    cons_egress: u16,
+    key: &[u8; 16],
+    mac: &mut [u8; 6],
+)
+    ensures { λ _. ⌜ now (mac .exit) ≡ hopMac «segment_id» timestamp «exp_time» «cons_ingress» «cons_egress» (now (key .entry)) ⌝ }
+{
+    *mac = mac::calculate_hop_mac(
+        segment_id,
+        timestamp,
+        exp_time,
+        cons_ingress,
+        cons_egress,
+        *key,
+    );
+}

@@ -1,0 +1,54 @@
+-- The SegID of a hop, from that of the hop before it; and the record of a station, from that of the station before it.
+-- Assumes nothing.
+use mathlib.Core.Path.{_≡_, refl, _∙_}
+use mathlib.Core.Bool.{Bool}
+use mathlib.Core.List.{List}
+use Prim.Native.Nat.{ℕ, zero, suc, _+_, _-_, _<_}
+use native.Mathlib.Omega.{arith}
+use native.Mathlib.Numerals.{add-one}
+use Rattle.standard_path.specs.Mac.{macBetaStep, macChainingBeta}
+use Rattle.standard_path.specs.Fields.{byDirection, consDir, segId, macField}
+use Rattle.standard_path.specs.Header.{infoField}
+use Rattle.itinerary.specs.Layout.{narrow}
+use Rattle.itinerary.specs.Records.{nextOf}
+use Rattle.itinerary.specs.Itinerary.{stationAt}
+use Rattle.journey.specs.Check.{macsFrom, chainedSegId, countOf, hopOf, hopFits}
+use Rattle.journey.proofs.Stands.{chain-one-more}
+use Rattle.journey_check.specs.Chain.{recordAfter}
+use Rattle.journey_check.proofs.All.{Asked, asked-none}
+
+module _ (info : List ℕ) (hop : ℕ → List ℕ) where
+  chained-none : segId info ≡ chainedSegId info hop 0
+  unfolding chainedSegId macsFrom macChainingBeta
+  chained-none = refl
+
+  pub chained-more : (m : ℕ) {before next stepped : ℕ} {field : List ℕ} → 0 < m → before ≡ chainedSegId info hop (m - 1)
+      → stepped ≡ byDirection (consDir info) 0 1 + (m - 1) → field ≡ hop stepped → next ≡ macBetaStep before (macField field)
+      → next ≡ chainedSegId info hop m
+  chained-more zero h e s f q = absurd (omega arith)
+  chained-more (suc m) {before} {next} {stepped} {field} h e s f q =
+      let less : suc m - 1 ≡ m = omega arith in
+      rw (chain-one-more info hop m, ← less, ← e, ← s, ← f) q
+
+-- ---- a walk along a segment: `done` of its hops have been asked, and the walk stands at the next one
+
+abbrev pub hopQuestion : List ℕ → ℕ → ℕ → List ℕ → ℕ → ℕ → Bool
+hopQuestion itinerary first latest path segment m =
+    hopFits (stationAt narrow itinerary (recordAfter narrow itinerary first m)) latest (infoField path segment) (hopOf path segment)
+    (countOf path segment) m
+
+pub record Walked (itinerary : List ℕ) (first latest : ℕ) (path : List ℕ) (segment station segment-id done : ℕ) : Type 0 where
+  pub asked : Asked (hopQuestion itinerary first latest path segment) (countOf path segment) done
+  pub reached : station ≡ recordAfter narrow itinerary first done
+  pub chained : segment-id ≡ chainedSegId (infoField path segment) (hopOf path segment) (done - 1)
+
+pub walked-none : (itinerary : List ℕ) (first latest : ℕ) (path : List ℕ) (segment : ℕ) {segment-id : ℕ}
+    → segment-id ≡ segId (infoField path segment) → Walked itinerary first latest path segment first segment-id 0
+unfolding recordAfter
+walked-none itinerary first latest path segment e =
+    record { asked = asked-none _ _; reached = refl; chained = e ∙ chained-none (infoField path segment) (hopOf path segment) }
+
+pub record-more : (itinerary : List ℕ) (first m : ℕ) {station next : ℕ} → station ≡ recordAfter narrow itinerary first m
+    → next ≡ nextOf narrow itinerary station → next ≡ recordAfter narrow itinerary first (m + 1)
+unfolding recordAfter
+record-more itinerary first m {station} {next} e q = rw (add-one m, ← e) q

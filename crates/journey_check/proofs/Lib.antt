@@ -1,0 +1,4 @@
+pub mod All
+pub mod Chained
+pub mod Stations
+pub mod Verdicts

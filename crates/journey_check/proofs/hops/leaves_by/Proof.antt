@@ -1,0 +1,24 @@
+use borrow.Author.Needs.{needs}
+use Rattle.journey.specs.Check.{leavesBy}
+use Rattle.journey_check.proofs.hops.leaves_by.Statement.{statement}
+use Rattle.journey_check.proofs.hops.leaves_by.Tie as tie
+
+returns : tie.Need-returns
+unfolding leavesBy
+returns c = rw (← c .before .before .before .before .before .egress-interface .ensures, ← c .before .before .before .before .lookup .ensures, c .before .before .state .given .1) (c .is-up .ensures)
+
+returns-2 : tie.Need-returns-2
+unfolding leavesBy
+returns-2 c = rw (← c .before .before .before .egress-interface .ensures, ← c .before .before .lookup .ensures, c .enum-told .given .1)
+
+pub leaves-by-spec : {M : Type 1} → statement M
+leaves-by-spec =
+    tie.close
+    (tie.spec
+    (λ c κs. search needs)
+    (λ c κs. search needs)
+    (λ c. search needs)
+    (λ c κs. search needs)
+    (λ c. search needs)
+    returns
+    returns-2)

@@ -1,0 +1,13 @@
+use borrow.Author.Needs.{needs}
+use Rattle.journey.specs.Check.{lengthsFit}
+use Rattle.journey_check.proofs.segments.lengths_fit.Statement.{statement}
+use Rattle.journey_check.proofs.segments.lengths_fit.Tie as tie
+
+returns : tie.Need-returns
+unfolding lengthsFit
+returns c = rw (← c .before .before .is-long-enough .ensures, ← c .before .is-long-enough2 .ensures, ← c .is-long-enough3 .ensures)
+
+pub lengths-fit-spec : {M : Type 1} → statement M
+lengths-fit-spec =
+    tie.close
+    (tie.spec (λ c κs. search needs) (λ c κs. search needs) (λ c κs. search needs) returns)

@@ -1,0 +1,117 @@
+// A hop of a segment: where it stands in the path, and what is asked of it at its station.
+use aes_cmac::aes;
+use aes_cmac::cmac;
+use interface_table::Listed;
+use itinerary::record;
+use itinerary::station::lookup;
+use standard_path::mac::calculate_hop_mac_with;
+use standard_path::view;
+use validator::check::mac_number;
+ghost use mathlib.Core.Path.{_≡_};
+ghost use Prim.Native.Nat.{_<_};
+ghost use lib.Dec.{eqb};
+ghost use Rattle.aes_cmac.specs.ByTable.{roundTable};
+ghost use Rattle.standard_path.specs.Fields.{macField};
+ghost use Rattle.standard_path.specs.Header.{infoField};
+ghost use Rattle.validator.specs.Check.{macNumber, rightMac};
+ghost use Rattle.routing.specs.Step.{keyMac};
+ghost use Rattle.itinerary.specs.Layout.{narrow};
+ghost use Rattle.itinerary.specs.Itinerary.{stationAt};
+ghost use Rattle.journey.specs.Check.{startOf, countOf, hopOf, chainedSegId, arrivesBy, leavesBy, hopFits};
+
+// ---- where it stands
+
+pub fn segment_start(path: &[u8], segment: u8) -> u8
+    ensures { λ r. ⌜ (r ≡ startOf (now (path .entry)) segment) × (r < 127) ⌝ }
+{
+    match segment {
+        0 => 0,
+        1 => view::seg0_len(path),
+        _ => view::seg0_len(path) + view::seg1_len(path),
+    }
+}
+
+pub fn hop_count(path: &[u8], segment: u8) -> u8
+    ensures { λ r. ⌜ (r ≡ countOf (now (path .entry)) segment) × (r < 64) ⌝ }
+{
+    match segment {
+        0 => view::seg0_len(path),
+        1 => view::seg1_len(path),
+        _ => view::seg2_len(path),
+    }
+}
+
+// The hop field with this place in its segment.
+pub fn hop_of(path: &[u8], segment: u8, hop: u8) -> &[u8]
+    requires { ⌜ hop < 64 ⌝ }
+    ensures { λ r. ⌜ now r ≡ hopOf (now (path .entry)) segment hop ⌝ }
+{
+    view::hop_field(path, segment_start(path, segment) + hop)
+}
+
+// ---- what is asked of it
+
+fn mac_fits(table: &[u8; 1024], key: [u8; 16], info: &[u8], hop: &[u8], segment_id: u16) -> bool
+    requires { ⌜ now table ≡ roundTable ⌝ }
+    ensures { λ r. ⌜ r ≡ eqb (rightMac (keyMac key) (now (hop .entry)) (now (info .entry)) «segment_id»)
+        (macNumber (macField (now (hop .entry)))) ⌝ }
+{
+    let round_keys = aes::expand_key(key);
+    let k1 = cmac::subkey_with(table, round_keys);
+    let mac = calculate_hop_mac_with(
+        table,
+        round_keys,
+        k1,
+        segment_id,
+        view::info_timestamp(info),
+        view::exp_time(hop),
+        view::cons_ingress(hop),
+        view::cons_egress(hop),
+    );
+    mac_number(mac) == mac_number(view::mac(hop))
+}
+
+pub fn arrives_by(itinerary: &[u8], station: u32, info: &[u8], hop: &[u8]) -> bool
+    ensures { λ r. ⌜ r ≡ arrivesBy (stationAt narrow (now (itinerary .entry)) station) (now (info .entry)) (now (hop .entry)) ⌝ }
+{
+    let ingress = view::ingress_interface(hop, info);
+    (ingress == 0) | (ingress == record::arrival(itinerary, station))
+}
+
+fn leaves_by(itinerary: &[u8], station: u32, info: &[u8], hop: &[u8]) -> bool
+    ensures { λ r. ⌜ r ≡ leavesBy (stationAt narrow (now (itinerary .entry)) station) (now (info .entry)) (now (hop .entry)) ⌝ }
+{
+    match lookup(itinerary, station, view::egress_interface(hop, info)) {
+        Listed::State(state) => interface_table::is_up(state),
+        Listed::Nothing => false,
+    }
+}
+
+// The hop with this place in its segment, at the station with this record.
+pub fn hop_fits(
+    table: &[u8; 1024],
+    itinerary: &[u8],
+    station: u32,
+    latest: u32,
+    path: &[u8],
+    segment: u8,
+    segment_id: u16,
+    hop: u8,
+) -> bool
+    requires table { ⌜ now table ≡ roundTable ⌝ }
+    requires chained { ⌜ «segment_id» ≡ chainedSegId (infoField (now path) segment) (hopOf (now path) segment) hop ⌝ }
+    requires short { ⌜ hop < 64 ⌝ }
+    ensures { λ r. ⌜ r ≡ hopFits (stationAt narrow (now (itinerary .entry)) station) latest (infoField (now (path .entry)) segment)
+        (hopOf (now (path .entry)) segment) (countOf (now (path .entry)) segment) hop ⌝ }
+{
+    let info = view::info_field(path, segment);
+    let field = hop_of(path, segment, hop);
+    let key = record::key(itinerary, station);
+    let fits = (latest <= view::expiry_timestamp(field, info))
+        & mac_fits(table, key, info, field, segment_id)
+        & ((hop == 0) | arrives_by(itinerary, station, info, field));
+    if hop_count(path, segment) <= hop + 1 {
+        return fits;
+    }
+    fits & leaves_by(itinerary, station, info, field)
+}

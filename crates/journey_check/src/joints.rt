@@ -1,0 +1,76 @@
+// The joints of a path: the last hop of a segment and the first of the next, at one station.
+use crate::hops;
+use crate::segments;
+use interface_table::Listed;
+use itinerary::station::lookup;
+use standard_path::view;
+ghost use mathlib.Core.Path.{_≡_};
+ghost use mathlib.Core.Bool.{true};
+ghost use Prim.Native.Nat.{_+_, _-_, _<_};
+ghost use lib.ListN.{length};
+ghost use Rattle.standard_path.specs.Fields.{seg0Len, seg1Len, seg2Len};
+ghost use Rattle.standard_path.specs.Header.{infos, infoField};
+ghost use Rattle.interface_table.specs.Table.{pairAllowed};
+ghost use Rattle.validator.specs.Check.{linkOf};
+ghost use Rattle.itinerary.specs.Layout.{narrow};
+ghost use Rattle.itinerary.specs.Itinerary.{stationAt, stations};
+ghost use Rattle.journey.specs.Check.{all, lengthsFit, countOf, hopOf, jointFits, jointPasses};
+ghost use Rattle.journey.specs.Verdict.{stationCount};
+
+fn link_of(listed: Listed) -> u8
+    ensures { λ r. ⌜ r ≡ linkOf listed ⌝ }
+{
+    match listed {
+        Listed::State(state) => interface_table::link_type(state),
+        Listed::Nothing => 0,
+    }
+}
+
+// From a hop to the next segment's first, at the station with this record.
+fn joint_fits(
+    itinerary: &[u8],
+    station: u32,
+    info: &[u8],
+    hop: &[u8],
+    next_info: &[u8],
+    next_hop: &[u8],
+) -> bool
+    ensures { λ r. ⌜ r ≡ jointFits (stationAt narrow (now (itinerary .entry)) station) (now (info .entry)) (now (hop .entry))
+        (now («next_info» .entry)) (now («next_hop» .entry)) ⌝ }
+{
+    let Listed::State(state) = lookup(itinerary, station, view::ingress_interface(hop, info)) else {
+        return false;
+    };
+    let out = lookup(
+        itinerary,
+        station,
+        view::egress_interface(next_hop, next_info),
+    );
+    interface_table::is_allowed_pair(interface_table::link_type(state), link_of(out))
+        & hops::arrives_by(itinerary, station, next_info, next_hop)
+}
+
+// No clock is read at a joint.
+pub fn joints_fit(itinerary: &[u8], path: &[u8]) -> bool
+    requires long { ⌜ lengthsFit (seg0Len (now path)) (seg1Len (now path)) (seg2Len (now path)) ≡ true ⌝ }
+    requires counted { ⌜ length (stations narrow (now itinerary)) ≡ stationCount (now path) ⌝ }
+    ensures { λ r. ⌜ r ≡ all (infos (now (path .entry)) - 1) (jointPasses (stations narrow (now (itinerary .entry))) 0 0 (now (path .entry))) ⌝ }
+{
+    let infos = view::info_field_count(path);
+    let mut segment: u8 = 0;
+    while segment + 1 < infos {
+        let next = segment + 1;
+        if !joint_fits(
+            itinerary,
+            segments::first_station(path, itinerary, next),
+            view::info_field(path, segment),
+            hops::hop_of(path, segment, hops::hop_count(path, segment) - 1),
+            view::info_field(path, next),
+            hops::hop_of(path, next, 0),
+        ) {
+            return false;
+        }
+        segment = next;
+    }
+    true
+}

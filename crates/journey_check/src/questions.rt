@@ -1,0 +1,123 @@
+// The journey check: 01's questions 2 to 4 and 23 to 25, then the conditions of a pass.
+use crate::joints;
+use crate::segments;
+use aes_cmac::aes;
+use itinerary::station;
+use journey::answer::JourneyError;
+use journey::answer::Verdict;
+use standard_path::view;
+use standard_path::view::HeaderCheck;
+ghost use mathlib.Core.Path.{_≡_};
+ghost use mathlib.Core.Bool.{not, _&&_, cond};
+ghost use lib.Dec.{eqb};
+ghost use lib.ListN.{length, drop};
+ghost use Rattle.aes_cmac.specs.ByTable.{roundTable};
+ghost use Rattle.standard_path.specs.Fields.{currHf, currInf, consIngressAlert, consEgressAlert};
+ghost use Rattle.itinerary.specs.Layout.{narrow};
+ghost use Rattle.itinerary.specs.Itinerary.{stations};
+ghost use Rattle.journey.specs.Check.{passes};
+ghost use Rattle.journey.specs.Verdict.{stationCount, quiet, questions, firstNo, journeyCheck};
+ghost use Rattle.journey.specs.Journey.{Demand3};
+ghost use Rattle.journey.specs.declared.answer.Verdict.the-variants.{Passed, NotPassed};
+
+// ---- the conditions of a pass
+
+fn passes_with(
+    table: &[u8; 1024],
+    itinerary: &[u8],
+    earliest: u32,
+    latest: u32,
+    path: &[u8],
+) -> bool
+    requires table { ⌜ now table ≡ roundTable ⌝ }
+    requires counted { ⌜ length (stations narrow (now itinerary)) ≡ stationCount (now path) ⌝ }
+    ensures { λ r. ⌜ r ≡ passes (stations narrow (now (itinerary .entry))) earliest latest (now (path .entry)) ⌝ }
+{
+    if !segments::lengths_fit(
+        view::seg0_len(path),
+        view::seg1_len(path),
+        view::seg2_len(path),
+    ) {
+        return false;
+    }
+    if !segments::segments_fit(table, itinerary, earliest, latest, path) {
+        return false;
+    }
+    joints::joints_fit(itinerary, path)
+}
+
+// The round table is copied here, once for all MACs.
+fn passes(itinerary: &[u8], earliest: u32, latest: u32, path: &[u8]) -> bool
+    requires { ⌜ length (stations narrow (now itinerary)) ≡ stationCount (now path) ⌝ }
+    ensures { λ r. ⌜ r ≡ passes (stations narrow (now (itinerary .entry))) earliest latest (now (path .entry)) ⌝ }
+{
+    let table = aes::round_table();
+    passes_with(&table, itinerary, earliest, latest, path)
+}
+
+// ---- the questions
+
+fn station_count(path: &[u8]) -> u8
+    ensures { λ r. ⌜ r ≡ stationCount (now (path .entry)) ⌝ }
+{
+    view::hop_field_count(path) - view::info_field_count(path) + 1
+}
+
+fn is_at_start(path: &[u8]) -> bool
+    ensures { λ r. ⌜ r ≡ (eqb (currHf (now (path .entry))) 0 && eqb (currInf (now (path .entry))) 0) ⌝ }
+{
+    (view::curr_hop_field_idx(path) == 0) & (view::curr_info_field_idx(path) == 0)
+}
+
+fn is_hop_quiet(hop: &[u8]) -> bool
+    ensures { λ r. ⌜ r ≡ (not (consIngressAlert (now (hop .entry))) && not (consEgressAlert (now (hop .entry)))) ⌝ }
+{
+    !view::cons_ingress_router_alert(hop) & !view::cons_egress_router_alert(hop)
+}
+
+fn is_quiet(path: &[u8]) -> bool
+    ensures { λ r. ⌜ r ≡ quiet (now (path .entry)) ⌝ }
+{
+    let hops = view::hop_field_count(path);
+    let mut index: u8 = 0;
+    while index < hops {
+        if !is_hop_quiet(view::hop_field(path, index)) {
+            return false;
+        }
+        index += 1;
+    }
+    true
+}
+
+// Questions 23 to 25, and what comes after them.
+fn check_complete(path: &[u8], itinerary: &[u8], earliest: u32, latest: u32) -> Verdict
+    ensures { λ r. ⌜ r ≡ firstNo (drop 3 (questions narrow (now (itinerary .entry)) earliest latest (now (path .entry))))
+        (cond (passes (stations narrow (now (itinerary .entry))) earliest latest (now (path .entry))) Passed NotPassed) ⌝ }
+{
+    if !(station::fits(itinerary, station_count(path)) & (earliest <= latest)) {
+        return Verdict::Refused(JourneyError::UnfitItinerary);
+    }
+    if !is_at_start(path) {
+        return Verdict::Refused(JourneyError::NotAtStart);
+    }
+    if !is_quiet(path) {
+        return Verdict::Refused(JourneyError::AlertSet);
+    }
+    if passes(itinerary, earliest, latest, path) {
+        Verdict::Passed
+    } else {
+        Verdict::NotPassed
+    }
+}
+
+pub fn check_journey(path: &[u8], itinerary: &[u8], earliest: u32, latest: u32) -> Verdict
+    ensures { λ r. ⌜ r ≡ journeyCheck narrow (now (itinerary .entry)) earliest latest (now (path .entry)) ⌝ }
+    ensures { λ r. ⌜ Demand3 narrow (now (itinerary .entry)) earliest latest (now (path .entry)) r ⌝ }
+{
+    match view::check_header(path) {
+        HeaderCheck::MetaTooShort => Verdict::Refused(JourneyError::MetaTooShort),
+        HeaderCheck::DataTooShort => Verdict::Refused(JourneyError::DataTooShort),
+        HeaderCheck::TooManyHops => Verdict::Refused(JourneyError::TooManyHops),
+        HeaderCheck::Complete => check_complete(path, itinerary, earliest, latest),
+    }
+}
