@@ -1,0 +1,174 @@
+//! SCION's standard-path forwarding step, proved in Rattle, for programs written for pocketscion.
+//!
+//! The functions have pocketscion's names, the enums too. A path is the bytes of its header, of any length and any
+//! content: no call panics, and each gives the answer that the scope document's questions, asked in their order, give.
+//! What each promises, for the answer and for every byte of the path afterwards, is the contract of the function with
+//! `scion_` before its name in `crates/exports/src/calls.rt`; this crate adds names to the numbers that come back.
+//!
+//! Unlike pocketscion's, the step
+//! - takes the AS's interfaces as a table, an [`InterfaceTable`] or unchecked [`Interfaces`], and no closure;
+//! - takes no `local_as`, which nothing in the step looks at;
+//! - refuses with a [`Refusal`], which has the SCMP error's type, code, and pointer or interface, without its message.
+//!
+//! ```
+//! use standard_path::{
+//!     calculate_hop_mac, handle_standard_path, AsRoutingAction, InterfaceTable, ScionNetworkTime,
+//!     StandardRoutingError,
+//! };
+//!
+//! # fn main() -> Result<(), Box<dyn std::error::Error>> {
+//! let key = *b"a forwarding key";
+//! let table = InterfaceTable::new([1, 3], [4 + 2, 4 + 1])?; // 1 to a child, 3 to a parent, both up
+//!
+//! // One segment of three hops in construction direction, timestamp 1000, at its second hop, from 3 to 1.
+//! let mut path = [0; 48];
+//! path[..12].copy_from_slice(&[1, 0, 3 << 4, 0, 1, 0, 0x12, 0x34, 0, 0, 3, 232]);
+//! path[24..30].copy_from_slice(&[0, 0, 0, 3, 0, 1]);
+//! path[30..36].copy_from_slice(&calculate_hop_mac(0x1234, 1000, 0, 3, 1, &key));
+//!
+//! let late = ScionNetworkTime::from_timestamp_secs(1338);
+//! let refusal = handle_standard_path(&mut path.clone(), 3, late, &key, &table, false).unwrap_err();
+//! assert_eq!(refusal.error, StandardRoutingError::SegmentExpired { hop_index: 1 });
+//! assert_eq!(refusal.to_string(), "hop 1: the hop field has expired");
+//! assert_eq!(refusal.to_scmp_error().map(|scmp| (scmp.scmp_type(), scmp.code())), Some((4, 52)));
+//!
+//! let in_time = ScionNetworkTime::from_timestamp_secs(1337);
+//! let action = handle_standard_path(&mut path, 3, in_time, &key, &table, false)?;
+//! assert_eq!(action, AsRoutingAction::ForwardNextHop { egress_interface_id: 1 });
+//! assert_eq!(path[0], 2); // the path stands at its third hop
+//! # Ok(())
+//! # }
+//! ```
+#![deny(unsafe_code, unsafe_op_in_unsafe_fn, missing_docs)]
+
+mod answer;
+#[allow(unsafe_code)]
+mod ffi;
+mod reply;
+mod table;
+
+pub use answer::{
+    AdvanceError, AsRoutingAction, HeaderError, IngressNextAction, LocalAsRoutingAction, PathReverseError, Refusal,
+    ScmpError, SegmentIndex, StandardRoutingError,
+};
+pub use table::{AsRoutingInterfaceState, AsRoutingLinkType, InterfaceTable, Interfaces, UnsoundTable};
+
+/// An AS's key for the MACs of its hop fields.
+pub type ForwardingKey = [u8; 16];
+
+/// A time, in seconds since 1970.
+#[derive(Debug, Clone, Copy, PartialEq, Eq, PartialOrd, Ord, Hash)]
+pub struct ScionNetworkTime(pub u32);
+
+impl ScionNetworkTime {
+    /// The time that lies so many seconds behind the start of 1970.
+    pub fn from_timestamp_secs(secs: u32) -> Self {
+        ScionNetworkTime(secs)
+    }
+
+    /// The seconds since the start of 1970.
+    pub fn timestamp_secs(&self) -> u32 {
+        self.0
+    }
+}
+
+// ---- the step
+
+/// The whole step of an AS on `path`, in place: where does a packet go that came in by `ingress_interface_id` (0 from
+/// hosts of this AS)?
+///
+/// A refusal from a check does not stop the path's move, as in pocketscion; the scope document says which bytes each
+/// refusal leaves.
+pub fn handle_standard_path<'a>(
+    path: &mut [u8],
+    ingress_interface_id: u16,
+    now: ScionNetworkTime,
+    as_forwarding_key: &ForwardingKey,
+    interfaces: impl Into<Interfaces<'a>>,
+    ignore_macs: bool,
+) -> Result<AsRoutingAction, Refusal> {
+    let at = ffi::At {
+        interface_id: ingress_interface_id,
+        time: now.0,
+        key: as_forwarding_key,
+        ignore_macs,
+    };
+    reply::step(ffi::whole_step(interfaces.into(), path, at))
+}
+
+/// The ingress half of the step alone.
+pub fn standard_path_ingress<'a>(
+    path: &mut [u8],
+    ingress_interface_id: u16,
+    now: ScionNetworkTime,
+    forwarding_key: &ForwardingKey,
+    interfaces: impl Into<Interfaces<'a>>,
+    ignore_macs: bool,
+) -> Result<IngressNextAction, Refusal> {
+    let at = ffi::At {
+        interface_id: ingress_interface_id,
+        time: now.0,
+        key: forwarding_key,
+        ignore_macs,
+    };
+    reply::ingress(ffi::ingress(interfaces.into(), path, at))
+}
+
+/// The egress half of the step alone, leaving by `egress_if_id`.
+///
+/// It does not ask whether that interface is listed or up: the whole step does, between its halves.
+pub fn standard_path_egress<'a>(
+    path: &mut [u8],
+    egress_if_id: u16,
+    now: ScionNetworkTime,
+    forwarding_key: &ForwardingKey,
+    interfaces: impl Into<Interfaces<'a>>,
+    ignore_macs: bool,
+) -> Result<AsRoutingAction, Refusal> {
+    let at = ffi::At {
+        interface_id: egress_if_id,
+        time: now.0,
+        key: forwarding_key,
+        ignore_macs,
+    };
+    reply::step(ffi::egress(interfaces.into(), path, at))
+}
+
+// ---- the path by itself
+
+/// Turns `path` around in place, for the way back.
+///
+/// [`PathReverseError::HopOutOfBounds`] and [`PathReverseError::InfoOutOfBounds`] leave the lengths swapped, as in
+/// pocketscion; the other errors leave the path as it was.
+pub fn try_reverse(path: &mut [u8]) -> Result<(), PathReverseError> {
+    reply::reversal(ffi::try_reverse(path))
+}
+
+/// When the path expires, in seconds since 1970: the least expiry of a hop in a used segment, 0 if there is none.
+pub fn expiration(path: &[u8]) -> Result<u32, HeaderError> {
+    reply::expiration(ffi::expiration(path))
+}
+
+/// The segment that a hop lies in. A path too short for the three lengths has no hop.
+pub fn calculate_segment_index(path: &[u8], hop_idx: u8) -> SegmentIndex {
+    reply::segment_index(ffi::calculate_segment_index(path, hop_idx))
+}
+
+// ---- MACs
+
+/// AES-CMAC (RFC 4493) of a message of any length.
+pub fn aes_cmac(key: &[u8; 16], message: &[u8]) -> [u8; 16] {
+    ffi::aes_cmac(key, message)
+}
+
+/// The MAC of a hop field.
+pub fn calculate_hop_mac(
+    segment_id: u16,
+    timestamp: u32,
+    exp_time: u8,
+    cons_ingress: u16,
+    cons_egress: u16,
+    key: &ForwardingKey,
+) -> [u8; 6] {
+    ffi::calculate_hop_mac(segment_id, timestamp, exp_time, cons_ingress, cons_egress, key)
+}
