@@ -1,7 +1,8 @@
 """Prints `stdout`: what each call answers on each path of src/, and the bytes that it leaves.
 
 A model written from the scope's text, with the CMAC of the package `cryptography`. With the word `paths` it prints the
-constants of src/paths.rt instead.
+constants of src/paths.rt instead, with the word `inputs` a line for each line of `stdout` with what the call is given:
+rust/standard-path/tests/inputs, by which the calls from Rust are compared with `stdout`.
 """
 import sys
 
@@ -323,9 +324,11 @@ def turn_around(path):
 # ---- the lines
 
 LINES = []
+INPUTS = []
 
 
-def put_line(call, label, path, made):
+def put_line(call, label, path, made, *given):
+    INPUTS.append(" ".join([call, path.hex(), *given]))
     try:
         answer = made()
     except No as no:
@@ -338,16 +341,23 @@ def put_line(call, label, path, made):
 IDS, STATES = [1, 2, 3], [6, 6, 5]
 
 
+def texts(ids, states, interface, time, ignore_macs):
+    return ",".join(map(str, ids)), ",".join(map(str, states)), str(interface), str(time), str(int(ignore_macs))
+
+
 def ingress_at(label, path, ids, states, interface, time, ignore_macs=False):
-    put_line("ingress", label, path, lambda: go_in(path, ids, states, interface, time, ignore_macs)[0])
+    given = ids, states, interface, time, ignore_macs
+    put_line("ingress", label, path, lambda: go_in(path, *given)[0], *texts(*given))
 
 
 def egress_at(label, path, ids, states, interface, time, ignore_macs=False):
-    put_line("egress", label, path, lambda: go_out(path, ids, states, interface, time, ignore_macs))
+    given = ids, states, interface, time, ignore_macs
+    put_line("egress", label, path, lambda: go_out(path, *given), *texts(*given))
 
 
 def step_at(label, path, ids, states, interface, time, ignore_macs=False):
-    put_line("step", label, path, lambda: go_through(path, ids, states, interface, time, ignore_macs))
+    given = ids, states, interface, time, ignore_macs
+    put_line("step", label, path, lambda: go_through(path, *given), *texts(*given))
 
 
 def ingress(label, path, interface, time):
@@ -731,7 +741,7 @@ def main():
     reversals()
     refused_reversals()
     expirations()
-    print("\n".join(LINES))
+    print("\n".join(INPUTS if sys.argv[1:] == ["inputs"] else LINES))
 
 
 if __name__ == "__main__":
