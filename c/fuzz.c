@@ -14,7 +14,7 @@
 #include <sys/mman.h>
 #include <unistd.h>
 
-enum { MAX_PATH = 2400, MAX_TABLE = 300, NUMBERS = 122 };
+enum { MAX_PATH = 2400, MAX_TABLE = 300, RECORD = 32, MAX_ITINERARY = 2049 * RECORD, NUMBERS = 122 };
 
 static _Noreturn void fail(const char *call, const char *what) {
     fprintf(stderr, "fuzz: %s: %s\n", call, what);
@@ -85,13 +85,13 @@ static void check_kept(const Room *room, const void *bytes, const char *call) {
     if (memcmp(room->at, bytes, room->length) != 0) fail(call, "an argument that is only read was changed");
 }
 
-static Room ids_room, states_room, path_room, key_room, mac_room;
+static Room ids_room, states_room, path_room, key_room, itinerary_room, mac_room;
 
 // ---- the input of a call
 
 static uint16_t ids[MAX_TABLE];
-static uint8_t states[MAX_TABLE], path[MAX_PATH], key[16];
-static size_t ids_length, states_length, path_length;
+static uint8_t states[MAX_TABLE], path[MAX_PATH], key[16], itinerary[MAX_ITINERARY];
+static size_t ids_length, states_length, path_length, itinerary_length;
 
 static uint16_t get16(const uint8_t *at) {
     return (uint16_t)(at[0] * 256 + at[1]);
@@ -228,6 +228,68 @@ static void draw_table(void) {
     if (one_in(32)) states[draw(MAX_TABLE)] = draw(256);
 }
 
+// ---- an itinerary
+
+static const uint8_t *station_key(uint32_t station) {
+    return itinerary + RECORD * (1 + station) + 8;
+}
+
+// The MACs of a segment whose first hop is at `station`.
+static void put_segment_macs(uint32_t info, uint32_t first, uint32_t station) {
+    uint16_t segment_id = get16(info_at(info) + 2);
+    for (uint32_t i = 0; i < lengths[info]; i++) {
+        uint32_t walked = cons_dir(info) ? i : lengths[info] - 1 - i;
+        put_mac(first + walked, info, segment_id, station_key(station + walked));
+        if (cons_dir(info) || walked != 0) segment_id ^= get16(hop_at(first + walked) + 6);
+    }
+    if (!cons_dir(info)) put16(info_at(info) + 2, segment_id);
+}
+
+// A path and an itinerary that fit: one table of five interfaces to children for all stations.
+static void draw_journey(void) {
+    draw_lengths();
+    draw_header();
+    uint32_t stations = hops - infos + 1, records = 1 + stations + 5;
+    if (hops == 0 || hops > 64) stations = 1;
+    itinerary_length = records * RECORD;
+    memset(itinerary, 0, itinerary_length);
+    put16(itinerary, 1);
+    for (uint32_t station = 0; station < stations; station++) {
+        uint8_t *at = itinerary + RECORD * (1 + station);
+        put16(at, station + 1 < stations ? station + 2 : 0);
+        put16(at + 2, station == 0 ? 0 : 1 + draw(5));
+        put16(at + 4, 1 + stations);
+        draw_bytes(at + 8, 16);
+    }
+    for (uint32_t i = 0; i < 5; i++) {
+        uint8_t *at = itinerary + RECORD * (1 + stations + i);
+        put16(at, i < 4 ? 2 + stations + i : 0);
+        put16(at + 2, 1 + i);
+        at[4] = 6;
+    }
+    if (hops == 0 || hops > 64) return;
+    for (uint32_t info = 0, first = 0, station = 0; info < infos && lengths[info] != 0; info++) {
+        for (uint32_t i = 0; i < lengths[info]; i++) {
+            put16(travel_ingress(first + i, info), get16(itinerary + RECORD * (1 + station + i) + 2));
+            put16(travel_egress(first + i, info), 1 + draw(5));
+        }
+        put_segment_macs(info, first, station);
+        first += lengths[info];
+        station += lengths[info] - 1;
+    }
+}
+
+static void damage_journey(void) {
+    if (one_in(4)) damage_path();
+    if (one_in(8)) path[0] = draw(256);
+    if (one_in(4)) itinerary[draw((uint32_t)itinerary_length)] ^= (uint8_t)(1 << draw(8));
+    if (one_in(16)) itinerary_length = draw((uint32_t)itinerary_length + 1);
+    if (one_in(64)) {
+        itinerary_length = one_in(2) ? draw(MAX_ITINERARY + 1) : draw(MAX_ITINERARY / RECORD + 1) * RECORD;
+        draw_bytes(itinerary, itinerary_length);
+    }
+}
+
 // ---- answers
 
 typedef struct {
@@ -236,7 +298,7 @@ typedef struct {
     bool has_scmp;
 } Call;
 
-enum { STEP, INGRESS, EGRESS, REVERSE, EXPIRATION, SEGMENT, CALLS };
+enum { STEP, INGRESS, EGRESS, REVERSE, EXPIRATION, SEGMENT, JOURNEY, CALLS };
 
 static const Call calls[CALLS] = {
     {"scion_handle_standard_path",
@@ -247,6 +309,7 @@ static const Call calls[CALLS] = {
     {"scion_try_reverse", {2, 3, 4, 20, 21, 22, 110}, false},
     {"scion_expiration", {2, 3, 4, 111}, false},
     {"scion_calculate_segment_index", {5, 112}, false},
+    {"scion_check_journey", {2, 3, 4, 23, 24, 25, 120, 121}, false},
 };
 
 static uint64_t counts[CALLS][NUMBERS];
@@ -379,6 +442,24 @@ static void fuzz_macs(void) {
     }
 }
 
+static void fuzz_journey(const Call *call) {
+    ScionReply replies[2];
+    draw_journey();
+    if (one_in(16) && hops != 0) hop_at(draw(hops))[0] = draw(4);
+    damage_journey();
+    uint32_t earliest = one_in(16) ? draw(2000) : 1002 + draw(50);
+    uint32_t latest = one_in(16) ? draw(2000) : earliest + draw(50);
+    for (int high = 0; high < 2; high++) {
+        const uint8_t *given_path = place(&path_room, path, path_length, high);
+        const uint8_t *given = place(&itinerary_room, itinerary, itinerary_length, high);
+        replies[high] = scion_check_journey(given_path, path_length, given, itinerary_length, earliest, latest);
+        check_kept(&path_room, path, call->name);
+        check_kept(&itinerary_room, itinerary, call->name);
+    }
+    check_reply(call, replies[0]);
+    check_same(call, replies[0], replies[1]);
+}
+
 // ----
 
 static void report(const Call *call) {
@@ -398,6 +479,7 @@ int main(int count, char **words) {
     states_room = make_room(sizeof states);
     path_room = make_room(sizeof path);
     key_room = make_room(sizeof key);
+    itinerary_room = make_room(sizeof itinerary);
     mac_room = make_room(16);
     for (uint32_t i = 0; i < rounds; i++) {
         fuzz_step(&calls[STEP], scion_handle_standard_path);
@@ -406,8 +488,9 @@ int main(int count, char **words) {
         fuzz_reverse(&calls[REVERSE]);
         fuzz_readers();
         fuzz_macs();
+        fuzz_journey(&calls[JOURNEY]);
     }
     for (int i = 0; i < CALLS; i++) report(&calls[i]);
-    printf("%u rounds of eight calls, each made twice\n", (unsigned)rounds);
+    printf("%u rounds of nine calls, each made twice\n", (unsigned)rounds);
     return 0;
 }

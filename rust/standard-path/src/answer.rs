@@ -603,3 +603,82 @@ impl fmt::Display for SegmentIndex {
         }
     }
 }
+
+// ---- the journey check
+
+/// What the journey check says of a path.
+#[derive(Debug, Clone, Copy, PartialEq, Eq, Hash)]
+pub enum Verdict {
+    /// The path travels, whatever the stations' clocks read between the two readings.
+    Passed,
+    /// For some readings it does not.
+    NotPassed,
+}
+
+impl Verdict {
+    /// The library's number: 120 or 121.
+    pub fn number(&self) -> u16 {
+        match self {
+            Verdict::Passed => 120,
+            Verdict::NotPassed => 121,
+        }
+    }
+}
+
+impl fmt::Display for Verdict {
+    fn fmt(&self, f: &mut fmt::Formatter<'_>) -> fmt::Result {
+        f.write_str(match self {
+            Verdict::Passed => "the path travels over the itinerary's stations",
+            Verdict::NotPassed => "the path does not travel over the itinerary's stations for all clock readings",
+        })
+    }
+}
+
+/// Why the journey check can't be made.
+#[derive(Debug, Clone, Copy, PartialEq, Eq, Hash)]
+pub enum JourneyError {
+    /// The path is shorter than the four bytes of its meta header.
+    MetaTooShort,
+    /// The path is shorter than its segment lengths say.
+    DataTooShort,
+    /// The path has more than 64 hops.
+    TooManyHops,
+    /// The itinerary or a table of it is unsound, it has not one station for each AS of the path, the first station's
+    /// arrival interface is not 0 or a later one's is, or the earliest reading is later than the latest.
+    UnfitItinerary,
+    /// The path does not stand at its first hop.
+    NotAtStart,
+    /// A hop field has an SCMP alert.
+    AlertSet,
+}
+
+impl JourneyError {
+    /// The scope document's number: 2 to 4 and 23 to 25.
+    pub fn number(&self) -> u16 {
+        match self {
+            JourneyError::MetaTooShort => 2,
+            JourneyError::DataTooShort => 3,
+            JourneyError::TooManyHops => 4,
+            JourneyError::UnfitItinerary => 23,
+            JourneyError::NotAtStart => 24,
+            JourneyError::AlertSet => 25,
+        }
+    }
+}
+
+impl fmt::Display for JourneyError {
+    fn fmt(&self, f: &mut fmt::Formatter<'_>) -> fmt::Result {
+        f.write_str(match self {
+            JourneyError::MetaTooShort => META_TOO_SHORT,
+            JourneyError::DataTooShort => DATA_TOO_SHORT,
+            JourneyError::TooManyHops => TOO_MANY_HOPS,
+            JourneyError::UnfitItinerary => {
+                "the itinerary is unsound, or does not fit the path or the two clock readings"
+            }
+            JourneyError::NotAtStart => "the path does not stand at its first hop",
+            JourneyError::AlertSet => "a hop field of the path has an SCMP alert",
+        })
+    }
+}
+
+impl Error for JourneyError {}

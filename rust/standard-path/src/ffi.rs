@@ -79,6 +79,15 @@ extern "C" {
 
     fn scion_calculate_segment_index(path: *const u8, path_length: usize, hop_idx: u8) -> Reply;
 
+    fn scion_check_journey(
+        path: *const u8,
+        path_length: usize,
+        itinerary: *const u8,
+        itinerary_length: usize,
+        earliest: u32,
+        latest: u32,
+    ) -> Reply;
+
     fn scion_aes_cmac(key: *const [u8; 16], message: *const u8, message_length: usize, mac: *mut [u8; 16]);
 
     fn scion_calculate_hop_mac(
@@ -147,6 +156,20 @@ pub(crate) fn expiration(path: &[u8]) -> Reply {
 pub(crate) fn calculate_segment_index(path: &[u8], hop_idx: u8) -> Reply {
     // SAFETY: pointer and length of one slice, which is only read.
     unsafe { scion_calculate_segment_index(path.as_ptr(), path.len(), hop_idx) }
+}
+
+pub(crate) fn check_journey(path: &[u8], itinerary: &[u8], earliest: u32, latest: u32) -> Reply {
+    // SAFETY: pointers and lengths of two slices, which are only read.
+    unsafe {
+        scion_check_journey(
+            path.as_ptr(),
+            path.len(),
+            itinerary.as_ptr(),
+            itinerary.len(),
+            earliest,
+            latest,
+        )
+    }
 }
 
 pub(crate) fn aes_cmac(key: &[u8; 16], message: &[u8]) -> [u8; 16] {

@@ -48,8 +48,8 @@ mod reply;
 mod table;
 
 pub use answer::{
-    AdvanceError, AsRoutingAction, HeaderError, IngressNextAction, LocalAsRoutingAction, PathReverseError, Refusal,
-    ScmpError, SegmentIndex, StandardRoutingError,
+    AdvanceError, AsRoutingAction, HeaderError, IngressNextAction, JourneyError, LocalAsRoutingAction,
+    PathReverseError, Refusal, ScmpError, SegmentIndex, StandardRoutingError, Verdict,
 };
 pub use table::{AsRoutingInterfaceState, AsRoutingLinkType, InterfaceTable, Interfaces, UnsoundTable};
 
@@ -152,6 +152,29 @@ pub fn expiration(path: &[u8]) -> Result<u32, HeaderError> {
 /// The segment that a hop lies in. A path too short for the three lengths has no hop.
 pub fn calculate_segment_index(path: &[u8], hop_idx: u8) -> SegmentIndex {
     reply::segment_index(ffi::calculate_segment_index(path, hop_idx))
+}
+
+// ---- the journey check
+
+/// Whether a path, as its source would send it, travels over the stations of an itinerary, whatever their clocks read
+/// from `earliest` to `latest`.
+///
+/// An itinerary is records of 32 bytes, at most 2,048, numbers big-endian. A record starts with the index of the next
+/// in its chain, above its own, or 0 in the last.
+/// - Record 0 holds the index of the first station, and zeros.
+/// - A station: next (2 bytes), the interface that the packet arrives by (2, 0 at the first station only), the index of
+///   its first interface record (2, 0 for none), 2 zeros, key (16), 8 zeros.
+/// - An interface record: next (2), number (2), state (1, see [`AsRoutingInterfaceState::byte`]), zeros. In a chain the
+///   numbers ascend; stations may share records.
+///
+/// There is a station for each AS of the path: one for each hop, but one for the two hops of a segment change.
+pub fn check_journey(
+    path: &[u8],
+    itinerary: &[u8],
+    earliest: ScionNetworkTime,
+    latest: ScionNetworkTime,
+) -> Result<Verdict, JourneyError> {
+    reply::journey(ffi::check_journey(path, itinerary, earliest.0, latest.0))
 }
 
 // ---- MACs

@@ -3,8 +3,8 @@
 
 use crate::ffi::Reply;
 use crate::{
-    AdvanceError, AsRoutingAction, HeaderError, IngressNextAction, LocalAsRoutingAction, PathReverseError, Refusal,
-    ScmpError, SegmentIndex, StandardRoutingError,
+    AdvanceError, AsRoutingAction, HeaderError, IngressNextAction, JourneyError, LocalAsRoutingAction,
+    PathReverseError, Refusal, ScmpError, SegmentIndex, StandardRoutingError, Verdict,
 };
 
 fn ruled_out(reply: Reply) -> ! {
@@ -178,6 +178,20 @@ pub(crate) fn segment_index(reply: Reply) -> SegmentIndex {
     }
 }
 
+pub(crate) fn journey(reply: Reply) -> Result<Verdict, JourneyError> {
+    match reply.number {
+        120 => Ok(Verdict::Passed),
+        121 => Ok(Verdict::NotPassed),
+        2 => Err(JourneyError::MetaTooShort),
+        3 => Err(JourneyError::DataTooShort),
+        4 => Err(JourneyError::TooManyHops),
+        23 => Err(JourneyError::UnfitItinerary),
+        24 => Err(JourneyError::NotAtStart),
+        25 => Err(JourneyError::AlertSet),
+        _ => ruled_out(reply),
+    }
+}
+
 #[cfg(test)]
 mod tests {
     use super::*;
@@ -209,6 +223,12 @@ mod tests {
         }
         for number in [2, 3, 4] {
             assert_eq!(expiration(reply(number)).unwrap_err().number(), number);
+        }
+        for number in [2, 3, 4, 23, 24, 25] {
+            assert_eq!(journey(reply(number)).unwrap_err().number(), number);
+        }
+        for number in [120, 121] {
+            assert_eq!(journey(reply(number)).unwrap().number(), number);
         }
         for number in [5, 112] {
             assert_eq!(segment_index(reply(number)).number(), number);

@@ -95,6 +95,51 @@ fn empty_slices_are_inputs_like_others() {
     assert_eq!(try_reverse(&mut []), Err(PathReverseError::MetaTooShort));
     assert_eq!(expiration(&[]), Err(HeaderError::MetaTooShort));
     assert_eq!(calculate_segment_index(&[], 0), SegmentIndex::OutOfBounds);
+    assert_eq!(check_journey(&[], &[], NOW, NOW), Err(JourneyError::MetaTooShort));
+    assert_eq!(check_journey(&[0; 4], &[], NOW, NOW), Err(JourneyError::UnfitItinerary));
+}
+
+/// Two hops in construction direction, timestamp 1000, from interface 1 of the first AS to interface 2 of the second,
+/// and their itinerary.
+fn journey() -> (Vec<u8>, Vec<u8>) {
+    let (first_key, second_key) = ([1; 16], [2; 16]);
+    let first = calculate_hop_mac(0x1234, 1000, 0, 0, 1, &first_key);
+    let beta = 0x1234 ^ u16::from_be_bytes([first[0], first[1]]);
+    let second = calculate_hop_mac(beta, 1000, 0, 2, 0, &second_key);
+    let mut path = vec![0, 0, 2 << 4, 0, 1, 0, 0x12, 0x34, 0, 0, 3, 232];
+    for (interfaces, mac) in [([0, 0, 0, 1], first), ([0, 2, 0, 0], second)] {
+        path.extend([0, 0]);
+        path.extend(interfaces);
+        path.extend(mac);
+    }
+
+    let mut itinerary = vec![0; 4 * 32];
+    itinerary[1] = 1;
+    itinerary[32..40].copy_from_slice(&[0, 2, 0, 0, 0, 3, 0, 0]);
+    itinerary[40..56].copy_from_slice(&first_key);
+    itinerary[64..72].copy_from_slice(&[0, 0, 0, 2, 0, 0, 0, 0]);
+    itinerary[72..88].copy_from_slice(&second_key);
+    itinerary[96..101].copy_from_slice(&[0, 0, 0, 1, 6]);
+    (path, itinerary)
+}
+
+#[test]
+fn a_journey_is_checked() {
+    let (path, itinerary) = journey();
+    let check =
+        |earliest, latest| check_journey(&path, &itinerary, ScionNetworkTime(earliest), ScionNetworkTime(latest));
+    assert_eq!(check(1000, 1337), Ok(Verdict::Passed));
+    assert_eq!(check(1000, 1338), Ok(Verdict::NotPassed));
+    assert_eq!(check(999, 1337), Ok(Verdict::NotPassed));
+    assert_eq!(check(1001, 1000), Err(JourneyError::UnfitItinerary));
+    let altered = |at: usize, byte: u8| {
+        let mut path = path.clone();
+        path[at] = byte;
+        check_journey(&path, &itinerary, NOW, NOW)
+    };
+    assert_eq!(altered(0, 1), Err(JourneyError::NotAtStart));
+    assert_eq!(altered(12, 1), Err(JourneyError::AlertSet));
+    assert_eq!(altered(18, path[18] ^ 1), Ok(Verdict::NotPassed));
 }
 
 #[test]
