@@ -5,6 +5,8 @@
 // byte read or written beyond the flush end faults; one written beyond the other end is found changed; an answer that
 // hangs on one read there is not the same in both calls. Inputs are random bytes, and paths that would travel, damaged
 // here and there, so that each answer is reached: one that is not, or one that the call never gives, is an error too.
+//
+// Two numbers can be given: the rounds and the seed. The lines printed are, for each call, its answers and their counts.
 #define _DEFAULT_SOURCE
 #include "scion_step.h"
 

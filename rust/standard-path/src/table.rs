@@ -1,4 +1,9 @@
 //! The interfaces of an AS.
+//!
+//! `AsRoutingLinkType` and `AsRoutingInterfaceState` are from crates/pocketscion/src/network/scion/routing.rs of
+//! Anapaya/scion-sdk at commit 866faf5ba3, and changed: open fields, a byte for a state.
+//! Copyright 2025 Anapaya Systems
+//! Licensed under the Apache License, Version 2.0: see NOTICE.
 
 use std::error::Error;
 use std::fmt;
