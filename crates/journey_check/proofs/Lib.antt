@@ -1,4 +1,4 @@
 pub mod All
-pub mod Chained
+pub mod Walked
 pub mod Stations
 pub mod Verdicts

@@ -8,18 +8,19 @@ use native.Mathlib.Omega.{arith}
 use borrow.Author.Tests.{eqb-true}
 use lib.Dec.{eqb, leb}
 use lib.ListN.{length, getD}
-use Rattle.standard_path.specs.Fields.{seg0Len, seg1Len, seg2Len, timestamp}
+use Rattle.standard_path.specs.Fields.{timestamp}
 use Rattle.standard_path.specs.Header.{infos, infoField}
 use Rattle.itinerary.specs.Layout.{Layout}
 use Rattle.itinerary.specs.Records.{recordCount, nextOf, keyOf, firstStation, chain}
-use Rattle.itinerary.specs.Itinerary.{stationRecords, stationWithin, stationAt, stations, soundWithin, arrivalsFit, tablesSound, fitsWithin, itineraryFits}
+use Rattle.itinerary.specs.Itinerary.{stationRecords, stationWithin, stationAt, stations}
+use Rattle.itinerary.specs.Itinerary.{soundWithin, arrivalsFit, tablesSound, fitsWithin, itineraryFits}
 use Rattle.itinerary.proofs.Stations.{count-by-records, next-record, station-from-record}
-use Rattle.journey.specs.Check.{lengthsFit, segmentFits, jointFits, startOf, countOf, hopOf, noStation, stationOf, segmentPasses, jointPasses}
-use Rattle.journey.specs.Verdict.{stationCount}
-use Rattle.journey.proofs.Facts.{all-long, station-among, start-enough}
+use Rattle.journey.specs.Check.{segmentFits, jointFits, startOf, countOf, hopOf, noStation, stationOf, segmentPasses, jointPasses}
+use Rattle.journey.proofs.Facts.{Shape, all-long, station-among, start-enough}
 use Rattle.journey.proofs.Yes.{first-of, second-of}
 use Rattle.journey.proofs.Parts.{fit-shape}
-use Rattle.journey_check.specs.Chain.{recordAfter}
+use Rattle.journey_check.specs.Records.{recordAfter}
+use Rattle.journey_check.specs.Matched.{Matched}
 use Rattle.journey_check.proofs.All.{all-same}
 
 module _ (layout : Layout) (itinerary : List ℕ) where
@@ -63,18 +64,20 @@ module _ (layout : Layout) (itinerary : List ℕ) where
         record-after place m (omega arith),
       )
 
-  module _ (path : List ℕ) (fit : lengthsFit (seg0Len path) (seg1Len path) (seg2Len path) ≡ true)
-      (counted : length (stations layout itinerary) ≡ stationCount path) where
+  module _ (path : List ℕ) (matched : Matched layout itinerary path) where
+    shape : Shape path
+    shape = fit-shape path (matched .fit)
+
     pub starts-behind : (s : ℕ) → s < infos path → s ≤ startOf path s
-    starts-behind s h = start-enough (fit-shape path fit) s h
+    starts-behind s h = start-enough shape s h
 
     pub some-hops : (s : ℕ) → s < infos path → 2 ≤ countOf path s
-    some-hops s h = all-long (fit-shape path fit) s h
+    some-hops s h = all-long shape s h
 
     among : (s m : ℕ) → s < infos path → m < countOf path s → startOf path s - s + m < length records
     among s m h w =
-        let there = station-among (fit-shape path fit) s m h w in
-        let many = sym (count-by-records layout itinerary (recordCount layout itinerary) (recordCount layout itinerary)) ∙ counted in
+        let there = station-among shape s m h w in
+        let many = sym (count-by-records layout itinerary (recordCount layout itinerary) (recordCount layout itinerary)) ∙ matched .counted in
         omega (arith, there, starts-behind s h, many)
 
     station-read : (s m : ℕ) → s < infos path → m < countOf path s

@@ -5,17 +5,13 @@ use interface_table::Listed;
 use itinerary::station::lookup;
 use standard_path::view;
 ghost use mathlib.Core.Path.{_≡_};
-ghost use mathlib.Core.Bool.{true};
 ghost use Prim.Native.Nat.{_+_, _-_, _<_};
-ghost use lib.ListN.{length};
-ghost use Rattle.standard_path.specs.Fields.{seg0Len, seg1Len, seg2Len};
-ghost use Rattle.standard_path.specs.Header.{infos, infoField};
-ghost use Rattle.interface_table.specs.Table.{pairAllowed};
+ghost use Rattle.standard_path.specs.Header.{infos};
 ghost use Rattle.validator.specs.Check.{linkOf};
 ghost use Rattle.itinerary.specs.Layout.{narrow};
 ghost use Rattle.itinerary.specs.Itinerary.{stationAt, stations};
-ghost use Rattle.journey.specs.Check.{all, lengthsFit, countOf, hopOf, jointFits, jointPasses};
-ghost use Rattle.journey.specs.Verdict.{stationCount};
+ghost use Rattle.journey.specs.Check.{all, jointFits, jointPasses};
+ghost use Rattle.journey_check.specs.Matched.{Matched};
 
 fn link_of(listed: Listed) -> u8
     ensures { λ r. ⌜ r ≡ linkOf listed ⌝ }
@@ -50,27 +46,35 @@ fn joint_fits(
         & hops::arrives_by(itinerary, station, next_info, next_hop)
 }
 
-// No clock is read at a joint.
-pub fn joints_fit(itinerary: &[u8], path: &[u8]) -> bool
-    requires long { ⌜ lengthsFit (seg0Len (now path)) (seg1Len (now path)) (seg2Len (now path)) ≡ true ⌝ }
-    requires counted { ⌜ length (stations narrow (now itinerary)) ≡ stationCount (now path) ⌝ }
-    ensures { λ r. ⌜ r ≡ all (infos (now (path .entry)) - 1) (jointPasses (stations narrow (now (itinerary .entry))) 0 0 (now (path .entry))) ⌝ }
+// From a segment to the next. No clock is read there.
+fn joint_passes(itinerary: &[u8], path: &[u8], segment: u8) -> bool
+    requires matched { ⌜ Matched narrow (now itinerary) (now path) ⌝ }
+    requires listed { ⌜ segment + 1 < infos (now path) ⌝ }
+    ensures { λ r. ⌜ r ≡ jointPasses (stations narrow (now (itinerary .entry))) 0 0 (now (path .entry)) segment ⌝ }
+{
+    let next = segment + 1;
+    joint_fits(
+        itinerary,
+        segments::first_station(itinerary, path, next),
+        view::info_field(path, segment),
+        hops::hop_of(path, segment, hops::hop_count(path, segment) - 1),
+        view::info_field(path, next),
+        hops::hop_of(path, next, 0),
+    )
+}
+
+pub fn joints_pass(itinerary: &[u8], path: &[u8]) -> bool
+    requires { ⌜ Matched narrow (now itinerary) (now path) ⌝ }
+    ensures { λ r. ⌜ r ≡ all (infos (now (path .entry)) - 1)
+        (jointPasses (stations narrow (now (itinerary .entry))) 0 0 (now (path .entry))) ⌝ }
 {
     let infos = view::info_field_count(path);
     let mut segment: u8 = 0;
     while segment + 1 < infos {
-        let next = segment + 1;
-        if !joint_fits(
-            itinerary,
-            segments::first_station(path, itinerary, next),
-            view::info_field(path, segment),
-            hops::hop_of(path, segment, hops::hop_count(path, segment) - 1),
-            view::info_field(path, next),
-            hops::hop_of(path, next, 0),
-        ) {
+        if !joint_passes(itinerary, path, segment) {
             return false;
         }
-        segment = next;
+        segment += 1;
     }
     true
 }

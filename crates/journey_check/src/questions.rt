@@ -9,12 +9,12 @@ use standard_path::view;
 use standard_path::view::HeaderCheck;
 ghost use mathlib.Core.Path.{_≡_};
 ghost use mathlib.Core.Bool.{not, _&&_, cond};
-ghost use lib.Dec.{eqb};
+ghost use lib.Dec.{eqb, leb};
 ghost use lib.ListN.{length, drop};
 ghost use Rattle.aes_cmac.specs.ByTable.{roundTable};
 ghost use Rattle.standard_path.specs.Fields.{currHf, currInf, consIngressAlert, consEgressAlert};
 ghost use Rattle.itinerary.specs.Layout.{narrow};
-ghost use Rattle.itinerary.specs.Itinerary.{stations};
+ghost use Rattle.itinerary.specs.Itinerary.{stations, itineraryFits};
 ghost use Rattle.journey.specs.Check.{passes};
 ghost use Rattle.journey.specs.Verdict.{stationCount, quiet, questions, firstNo, journeyCheck};
 ghost use Rattle.journey.specs.Journey.{Demand3};
@@ -33,17 +33,11 @@ fn passes_with(
     requires counted { ⌜ length (stations narrow (now itinerary)) ≡ stationCount (now path) ⌝ }
     ensures { λ r. ⌜ r ≡ passes (stations narrow (now (itinerary .entry))) earliest latest (now (path .entry)) ⌝ }
 {
-    if !segments::lengths_fit(
-        view::seg0_len(path),
-        view::seg1_len(path),
-        view::seg2_len(path),
-    ) {
+    if !segments::lengths_fit(path) {
         return false;
     }
-    if !segments::segments_fit(table, itinerary, earliest, latest, path) {
-        return false;
-    }
-    joints::joints_fit(itinerary, path)
+    segments::segments_pass(table, itinerary, earliest, latest, path)
+        & joints::joints_pass(itinerary, path)
 }
 
 // The round table is copied here, once for all MACs.
@@ -61,6 +55,12 @@ fn station_count(path: &[u8]) -> u8
     ensures { λ r. ⌜ r ≡ stationCount (now (path .entry)) ⌝ }
 {
     view::hop_field_count(path) - view::info_field_count(path) + 1
+}
+
+fn itinerary_fits(itinerary: &[u8], earliest: u32, latest: u32, path: &[u8]) -> bool
+    ensures { λ r. ⌜ r ≡ (itineraryFits narrow (now (itinerary .entry)) (stationCount (now (path .entry))) && leb earliest latest) ⌝ }
+{
+    station::fits(itinerary, station_count(path)) & (earliest <= latest)
 }
 
 fn is_at_start(path: &[u8]) -> bool
@@ -94,7 +94,7 @@ fn check_complete(path: &[u8], itinerary: &[u8], earliest: u32, latest: u32) -> 
     ensures { λ r. ⌜ r ≡ firstNo (drop 3 (questions narrow (now (itinerary .entry)) earliest latest (now (path .entry))))
         (cond (passes (stations narrow (now (itinerary .entry))) earliest latest (now (path .entry))) Passed NotPassed) ⌝ }
 {
-    if !(station::fits(itinerary, station_count(path)) & (earliest <= latest)) {
+    if !itinerary_fits(itinerary, earliest, latest, path) {
         return Verdict::Refused(JourneyError::UnfitItinerary);
     }
     if !is_at_start(path) {

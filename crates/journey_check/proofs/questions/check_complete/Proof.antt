@@ -1,7 +1,5 @@
 use borrow.Author.Needs.{needs}
 use mathlib.Core.Path.{sym, _∙_}
-use mathlib.Core.Bool.{_&&_}
-use lib.Dec.{leb}
 use borrow.Author.Tests.{not-true, not-false}
 use Rattle.itinerary.specs.Layout.{narrow}
 use Rattle.journey.specs.Check.{passes}
@@ -13,34 +11,86 @@ use Rattle.journey_check.proofs.questions.check_complete.Tie as tie
 
 returns : tie.Need-returns
 unfolding firstNo
-returns c = rw (← c .before .before .station-count .ensures, ← c .before .fits2 .ensures, not-true (c .before .fits2 .result && leb (c .before .before .before .before .before .args .earliest) (c .before .before .before .before .before .args .latest)) (c .if1 .taken))
+returns c = rw (← c .before .itinerary-fits .ensures, not-true (c .before .itinerary-fits .result) (c .if1 .taken))
 
 returns-2 : tie.Need-returns-2
 unfolding firstNo
-returns-2 c = rw (← c .before .before .before .before .station-count .ensures, ← c .before .before .before .fits2 .ensures, not-false (c .before .before .before .fits2 .result && leb (c .before .before .before .before .before .before .before .args .earliest) (c .before .before .before .before .before .before .before .args .latest)) (c .before .before .if1 .left), ← c .before .is-at-start .ensures, not-true (c .before .is-at-start .result) (c .if2 .taken))
+returns-2 c =
+    let itinerary-fits = c .before .before .before .itinerary-fits in
+    let if1 = c .before .before .if1 in
+    rw (
+      ← itinerary-fits .ensures,
+      not-false (itinerary-fits .result) (if1 .left),
+      ← c .before .is-at-start .ensures,
+      not-true (c .before .is-at-start .result) (c .if2 .taken),
+    )
 
 returns-3 : tie.Need-returns-3
 unfolding firstNo
-returns-3 c = rw (← c .before .before .before .before .before .before .station-count .ensures, ← c .before .before .before .before .before .fits2 .ensures, not-false (c .before .before .before .before .before .fits2 .result && leb (c .before .before .before .before .before .before .before .before .before .args .earliest) (c .before .before .before .before .before .before .before .before .before .args .latest)) (c .before .before .before .before .if1 .left), ← c .before .before .before .is-at-start .ensures, not-false (c .before .before .before .is-at-start .result) (c .before .before .if2 .left), ← c .before .is-quiet .ensures, not-true (c .before .is-quiet .result) (c .if3 .taken))
+returns-3 c =
+    let itinerary-fits = c .before .before .before .before .before .itinerary-fits in
+    let if1 = c .before .before .before .before .if1 in
+    let is-at-start = c .before .before .before .is-at-start in
+    let if2 = c .before .before .if2 in
+    rw (
+      ← itinerary-fits .ensures,
+      not-false (itinerary-fits .result) (if1 .left),
+      ← is-at-start .ensures,
+      not-false (is-at-start .result) (if2 .left),
+      ← c .before .is-quiet .ensures,
+      not-true (c .before .is-quiet .result) (c .if3 .taken),
+    )
 
 passes-requires : tie.Need-passes-requires
 passes-requires c κs =
-    let fit = first-of (c .before .before .before .before .before .fits2 .result) _ (not-false (c .before .before .before .before .before .fits2 .result && leb (c .before .before .before .before .before .before .before .before .before .args .earliest) (c .before .before .before .before .before .before .before .before .before .args .latest)) (c .before .before .before .before .if1 .left)) in
-    fits-counted narrow _ _ (rw (c .before .before .before .before .before .before .station-count .ensures) at (sym (c .before .before .before .before .before .fits2 .ensures) ∙ fit))
+    let itinerary-fits = c .before .before .before .before .before .itinerary-fits in
+    let if1 = c .before .before .before .before .if1 in
+    fits-counted narrow _ _ (first-of _ _ (sym (itinerary-fits .ensures) ∙ not-false (itinerary-fits .result) (if1 .left)))
 
 returns-4 : tie.Need-returns-4
 unfolding firstNo
-returns-4 c = rw (← c .before .before .before .before .before .before .before .before .station-count .ensures, ← c .before .before .before .before .before .before .before .fits2 .ensures, not-false (c .before .before .before .before .before .before .before .fits2 .result && leb (c .before .before .before .before .before .before .before .before .before .before .before .args .earliest) (c .before .before .before .before .before .before .before .before .before .before .before .args .latest)) (c .before .before .before .before .before .before .if1 .left), ← c .before .before .before .before .before .is-at-start .ensures, not-false (c .before .before .before .before .before .is-at-start .result) (c .before .before .before .before .if2 .left), ← c .before .before .before .is-quiet .ensures, not-false (c .before .before .before .is-quiet .result) (c .before .before .if3 .left), ← c .before .passes .ensures, c .if4 .taken)
+returns-4 c =
+    let itinerary-fits = c .before .before .before .before .before .before .before .itinerary-fits in
+    let if1 = c .before .before .before .before .before .before .if1 in
+    let is-at-start = c .before .before .before .before .before .is-at-start in
+    let if2 = c .before .before .before .before .if2 in
+    let is-quiet = c .before .before .before .is-quiet in
+    let if3 = c .before .before .if3 in
+    rw (
+      ← itinerary-fits .ensures,
+      not-false (itinerary-fits .result) (if1 .left),
+      ← is-at-start .ensures,
+      not-false (is-at-start .result) (if2 .left),
+      ← is-quiet .ensures,
+      not-false (is-quiet .result) (if3 .left),
+      ← c .before .passes .ensures,
+      c .if4 .taken,
+    )
 
 returns-5 : tie.Need-returns-5
 unfolding firstNo
-returns-5 c = rw (← c .before .before .before .before .before .before .before .before .station-count .ensures, ← c .before .before .before .before .before .before .before .fits2 .ensures, not-false (c .before .before .before .before .before .before .before .fits2 .result && leb (c .before .before .before .before .before .before .before .before .before .before .before .args .earliest) (c .before .before .before .before .before .before .before .before .before .before .before .args .latest)) (c .before .before .before .before .before .before .if1 .left), ← c .before .before .before .before .before .is-at-start .ensures, not-false (c .before .before .before .before .before .is-at-start .result) (c .before .before .before .before .if2 .left), ← c .before .before .before .is-quiet .ensures, not-false (c .before .before .before .is-quiet .result) (c .before .before .if3 .left), ← c .before .passes .ensures, c .if4 .left)
+returns-5 c =
+    let itinerary-fits = c .before .before .before .before .before .before .before .itinerary-fits in
+    let if1 = c .before .before .before .before .before .before .if1 in
+    let is-at-start = c .before .before .before .before .before .is-at-start in
+    let if2 = c .before .before .before .before .if2 in
+    let is-quiet = c .before .before .before .is-quiet in
+    let if3 = c .before .before .if3 in
+    rw (
+      ← itinerary-fits .ensures,
+      not-false (itinerary-fits .result) (if1 .left),
+      ← is-at-start .ensures,
+      not-false (is-at-start .result) (if2 .left),
+      ← is-quiet .ensures,
+      not-false (is-quiet .result) (if3 .left),
+      ← c .before .passes .ensures,
+      c .if4 .left,
+    )
 
 pub check-complete-spec : {M : Type 1} → statement M
 check-complete-spec =
     tie.close
     (tie.spec
-    (λ c κs. search needs)
     (λ c κs. search needs)
     returns
     (λ c κs. search needs)

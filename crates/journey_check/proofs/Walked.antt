@@ -1,20 +1,21 @@
 -- The SegID of a hop, from that of the hop before it; and the record of a station, from that of the station before it.
 -- Assumes nothing.
 use mathlib.Core.Path.{_≡_, refl, _∙_}
-use mathlib.Core.Bool.{Bool}
+use mathlib.Core.Bool.{false, Bool}
 use mathlib.Core.List.{List}
-use Prim.Native.Nat.{ℕ, zero, suc, _+_, _-_, _<_}
+use Prim.Native.Nat.{ℕ, zero, suc, _+_, _-_, _≤_, _<_}
 use native.Mathlib.Omega.{arith}
+use borrow.Author.Tests.{lt-leb, le-leb}
 use native.Mathlib.Numerals.{add-one}
 use Rattle.standard_path.specs.Mac.{macBetaStep, macChainingBeta}
-use Rattle.standard_path.specs.Fields.{byDirection, consDir, segId, macField}
+use Rattle.standard_path.specs.Fields.{byDirection, consDir, segId, timestamp, macField}
 use Rattle.standard_path.specs.Header.{infoField}
 use Rattle.itinerary.specs.Layout.{narrow}
 use Rattle.itinerary.specs.Records.{nextOf}
-use Rattle.itinerary.specs.Itinerary.{stationAt}
-use Rattle.journey.specs.Check.{macsFrom, chainedSegId, countOf, hopOf, hopFits}
+use Rattle.itinerary.specs.Itinerary.{Station, stationAt}
+use Rattle.journey.specs.Check.{all, macsFrom, chainedSegId, countOf, hopOf, hopFits, segmentFits}
 use Rattle.journey.proofs.Stands.{chain-one-more}
-use Rattle.journey_check.specs.Chain.{recordAfter}
+use Rattle.journey_check.specs.Records.{recordAfter}
 use Rattle.journey_check.proofs.All.{Asked, asked-none}
 
 module _ (info : List ℕ) (hop : ℕ → List ℕ) where
@@ -52,3 +53,16 @@ pub record-more : (itinerary : List ℕ) (first m : ℕ) {station next : ℕ} �
     → next ≡ nextOf narrow itinerary station → next ≡ recordAfter narrow itinerary first (m + 1)
 unfolding recordAfter
 record-more itinerary first m {station} {next} e q = rw (add-one m, ← e) q
+
+-- ---- the timestamp of a segment, and then each of its hops
+
+module _ (station : ℕ → Station) (earliest latest : ℕ) (info : List ℕ) (hop : ℕ → List ℕ) (count : ℕ) {start : ℕ}
+    (e : start ≡ timestamp info) where
+  pub segment-early : earliest < start → false ≡ segmentFits station earliest latest info hop count
+  unfolding segmentFits
+  segment-early h = rw (← e, lt-leb start earliest h)
+
+  pub segment-begun : {answer : Bool} → start ≤ earliest → answer ≡ all count (λ m. hopFits (station m) latest info hop count m)
+      → answer ≡ segmentFits station earliest latest info hop count
+  unfolding segmentFits
+  segment-begun h q = rw (← e, le-leb start earliest h) q
