@@ -36,7 +36,7 @@ fn both_kinds_give_the_vectors_and_agree() {
                 bytes(expected)
             );
         }
-        let mut block = [0; 16];
+        let mut block = [0u8; 16];
         for _ in 0..10_000 {
             let key = block.map(|byte| byte.rotate_left(3) ^ 0x5a);
             block = Aes128::new(&key).encrypt_block(block);
