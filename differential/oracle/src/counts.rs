@@ -12,6 +12,15 @@ impl Counts {
         self.0.entry(number).or_default()[call as usize] += 1;
     }
 
+    pub fn add_all(&mut self, other: &Counts) {
+        for (number, counts) in &other.0 {
+            let sums = self.0.entry(*number).or_default();
+            for (sum, count) in sums.iter_mut().zip(counts) {
+                *sum += count;
+            }
+        }
+    }
+
     pub fn get(&self, call: Call, number: u16) -> u64 {
         self.0
             .get(&number)

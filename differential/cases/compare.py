@@ -1,0 +1,38 @@
+"""Reads the lines of `sample` and compares each with the model of crates/run_cases/expected.py.
+
+    cargo run --profile checked --bin sample 100000 100 | python3 cases/compare.py
+"""
+import sys
+
+import model
+
+NAMES = model.load()
+STEPS = {
+    "step": NAMES["go_through"],
+    "ingress": lambda *inputs: NAMES["go_in"](*inputs)[0],
+    "egress": NAMES["go_out"],
+}
+OTHERS = {"reverse": NAMES["turn_around"], "expiration": NAMES["expiration_of"]}
+
+
+def answer(call, path, *inputs):
+    """As `put_line` of the model has it."""
+    try:
+        return STEPS[call](path, *inputs) if call in STEPS else OTHERS[call](path)
+    except NAMES["No"] as no:
+        return "refused " + " ".join(map(str, no.args)) + (NAMES["scmp"](*no.args) if call in STEPS else "")
+
+
+compared = differences = 0
+for line in sys.stdin:
+    call, path, ids, states, interface, time, key, ignore_macs, expected, left = line.rstrip("\n").split("\t")
+    path = bytearray.fromhex(path)
+    NAMES["KEY"] = bytes.fromhex(key)
+    inputs = list(map(int, ids.split())), list(map(int, states.split())), int(interface), int(time), ignore_macs == "1"
+    found = answer(call, path, *inputs)
+    compared += 1
+    if (found, path.hex()) != (expected, left):
+        differences += 1
+        print(f"{line}the model: {found}, left {path.hex()}\n")
+print(f"{compared} compared, {differences} differences")
+sys.exit(differences != 0)
