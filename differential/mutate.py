@@ -1,0 +1,62 @@
+"""Tries each line of mutations.tsv: a wrong change to a copy of the published Rust, which the check must report.
+
+    python3 mutate.py              the check is the comparison with the model in Python
+    python3 mutate.py COMMAND      another check, run by the shell; it must fail. SCION_SDK_SRC names the changed copy
+
+A line has, between tabs: the file's last names, which occurrence of the old text is meant, the old text, the new text.
+"""
+import os
+import shutil
+import subprocess
+import sys
+from pathlib import Path
+
+HERE = Path(__file__).resolve().parent
+SOURCE = HERE.parent / os.environ.get("SCION_SDK_SRC", "../shared/docs/src")
+COPY = HERE / "target/mutation/src"
+COMPARE = "target/mutation/checked/sample 20000 100 1 256 | python3 cases/compare.py"
+BUILD = "cargo build --quiet --offline --locked --profile checked --target-dir target/mutation"
+
+
+def succeeds(command):
+    environment = os.environ | {"SCION_SDK_SRC": str(COPY), "RUSTFLAGS": "-Awarnings"}
+    shell = ["bash", "-o", "pipefail", "-c", command]
+    return subprocess.run(shell, cwd=HERE, env=environment, capture_output=True).returncode == 0
+
+
+def replace(text, occurrence, old, new):
+    parts = text.split(old)
+    if len(parts) <= occurrence:
+        raise ValueError(f"not found: {old}")
+    return old.join(parts[:occurrence]) + new + old.join(parts[occurrence:])
+
+
+def try_change(check, name, occurrence, old, new):
+    (file,) = [file for file in COPY.rglob("*.rs") if str(file).endswith("/" + name)]
+    text = file.read_text()
+    file.write_text(replace(text, int(occurrence), old, new))
+    try:
+        if not succeeds(BUILD):
+            return "DOES NOT COMPILE"
+        return "MISSED" if succeeds(check) else "reported"
+    finally:
+        file.write_text(text)
+
+
+def main():
+    check = " ".join(sys.argv[1:]) or COMPARE
+    shutil.rmtree(COPY, ignore_errors=True)
+    shutil.copytree(SOURCE, COPY)
+    if not succeeds(BUILD) or not succeeds(check):
+        sys.exit("the check fails on the unchanged Rust")
+    lines = (HERE / "mutations.tsv").read_text().splitlines()
+    outcomes = []
+    for line in lines:
+        name, occurrence, old, new = line.split("\t")
+        outcomes.append(try_change(check, name, occurrence, old, new))
+        print(f"{outcomes[-1]}: {name}: {old} -> {new}", flush=True)
+    print(f"{outcomes.count('reported')} of {len(lines)} reported")
+    sys.exit(outcomes.count("reported") != len(lines))
+
+
+main()
