@@ -2,6 +2,7 @@
 //!
 //! Two families are exhaustive ([`lengths`]); the others come in rounds, each round a few cases from one random path.
 
+pub mod arrivals;
 pub mod bytes;
 pub mod damage;
 pub mod journeys;
@@ -21,7 +22,7 @@ pub type Visit<'a> = &'a mut dyn FnMut(&Case);
 pub type Family = (&'static str, fn(&mut Rng, Visit));
 
 pub const FAMILIES: [Family; 6] = [
-    ("right MACs", paths::round),
+    ("right MACs", arrivals::round),
     ("journeys", journeys::round),
     ("damaged", damage::round),
     ("times", times::round),

@@ -6,7 +6,7 @@ use std::{hint::black_box, time::Instant};
 
 use oracle::{
     Call, Case,
-    inputs::{self, paths},
+    inputs::{self, arrivals},
     number,
 };
 use sciparse::dataplane_path::standard::mac::algo::calculate_hop_mac;
@@ -52,7 +52,7 @@ fn main() {
 /// Cases that a call answers so.
 fn kept(call: Call, answer: u16, ignore_macs: bool) -> Vec<Case> {
     let mut cases = Vec::new();
-    inputs::rounds(("", paths::round), 1, CASES, &mut |case| {
+    inputs::rounds(("", arrivals::round), 1, CASES, &mut |case| {
         if case.call == call && cases.len() < KEPT {
             let mut case = case.clone();
             case.ignore_macs = ignore_macs;

@@ -1,10 +1,6 @@
 //! Damaged copies of good paths: each bit flipped, each field set to other values.
 
-use super::{
-    Visit,
-    paths::{Path, case_at},
-    rng::Rng,
-};
+use super::{Visit, arrivals::case_at, paths::Path, rng::Rng};
 use crate::{Call, Case, case::lengths, sizes};
 
 /// All damage to one path at one place, in each call.

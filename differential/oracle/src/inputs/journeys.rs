@@ -1,10 +1,6 @@
 //! Paths walked from their first hop on: each step's bytes are those that the step before left.
 
-use super::{
-    Visit,
-    paths::{Path, case_at},
-    rng::Rng,
-};
+use super::{Visit, arrivals::case_at, paths::Path, rng::Rng};
 use crate::{Call, number};
 
 /// A whole journey, as far as the steps forward the packet; at each station also the two halves.

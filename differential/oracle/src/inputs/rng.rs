@@ -17,7 +17,7 @@ impl Rng {
 
     /// A number below the bound, which is not 0.
     pub fn below(&mut self, bound: usize) -> usize {
-        (self.number() as u128 * bound as u128 >> 64) as usize
+        ((self.number() as u128 * bound as u128) >> 64) as usize
     }
 
     /// True once in so many times.

@@ -4,7 +4,8 @@ use std::collections::BTreeMap;
 
 use super::{
     Visit,
-    paths::{Path, Place, case_at},
+    arrivals::case_at,
+    paths::{Path, Place},
     rng::Rng,
 };
 use crate::{Call, Case};

@@ -2,7 +2,8 @@
 
 use super::{
     Visit,
-    paths::{Path, Place, case_at},
+    arrivals::case_at,
+    paths::{Path, Place},
     rng::Rng,
 };
 use crate::Call;

@@ -68,8 +68,8 @@ impl Schedule {
 
     pub fn encrypt_block(&self, block: [u8; 16]) -> [u8; 16] {
         let mut state = words(&block);
-        for column in 0..4 {
-            state[column] ^= self.0[0][column];
+        for (word, key) in state.iter_mut().zip(self.0[0]) {
+            *word ^= key;
         }
         for key in &self.0[1..10] {
             state = [0, 1, 2, 3].map(|column| {
