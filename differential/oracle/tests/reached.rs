@@ -2,8 +2,7 @@
 
 use oracle::{Call, Case, counts::Counts, inputs};
 
-/// The answers that a call can give where the Rust is compared; in the whole step 8 comes from ingress only, and 10, 11
-/// and 12 too.
+/// The answers that a call can give where the Rust is compared.
 fn answers(call: Call) -> &'static [u16] {
     match call {
         Call::Step => &[
