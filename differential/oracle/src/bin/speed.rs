@@ -13,7 +13,7 @@ use sciparse::dataplane_path::standard::mac::algo::calculate_hop_mac;
 
 const CASES: u64 = 200_000;
 const KEPT: usize = 4096;
-const CALLS: usize = 200_000;
+const CALLS: usize = 16_384;
 
 fn main() {
     for portable_only in [false, true] {
@@ -74,10 +74,10 @@ fn time(name: &str, cases: &[Case]) {
     });
 }
 
-/// The least time of ten batches.
+/// The least time of two hundred batches.
 fn report(name: &str, call: &mut dyn FnMut(usize)) {
     let mut least = f64::INFINITY;
-    for _ in 0..10 {
+    for _ in 0..200 {
         let start = Instant::now();
         for turn in 0..CALLS {
             call(turn);
