@@ -12,8 +12,7 @@ use Rattle.standard_path.specs.Fields.{timestamp}
 use Rattle.standard_path.specs.Header.{infos, infoField}
 use Rattle.itinerary.specs.Layout.{Layout}
 use Rattle.itinerary.specs.Records.{recordCount, nextOf, keyOf, firstStation, chain}
-use Rattle.itinerary.specs.Itinerary.{stationRecords, stationWithin, stationAt, stations}
-use Rattle.itinerary.specs.Itinerary.{soundWithin, arrivalsFit, tablesSound, fitsWithin, itineraryFits}
+use Rattle.itinerary.specs.Itinerary.{stationRecords, stationWithin, stationAt, stations, soundWithin, arrivalsFit, tablesSound, fitsWithin, itineraryFits}
 use Rattle.itinerary.proofs.Stations.{count-by-records, next-record, station-from-record}
 use Rattle.journey.specs.Check.{segmentFits, jointFits, startOf, countOf, hopOf, noStation, stationOf, segmentPasses, jointPasses}
 use Rattle.journey.proofs.Facts.{Shape, all-long, station-among, start-enough}

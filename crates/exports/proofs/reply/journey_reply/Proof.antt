@@ -1,7 +1,6 @@
 use borrow.Author.Needs.{needs}
 use mathlib.Core.Path.{_∙_}
 use Rattle.exports.specs.Reply.{journeyReply}
-
 use Rattle.exports.proofs.reply.journey_reply.Statement.{statement}
 use Rattle.exports.proofs.reply.journey_reply.Tie as tie
 
