@@ -12,7 +12,8 @@ use Rattle.standard_path.specs.Fields.{timestamp}
 use Rattle.standard_path.specs.Header.{infos, infoField}
 use Rattle.itinerary.specs.Layout.{Layout}
 use Rattle.itinerary.specs.Records.{recordCount, nextOf, keyOf, firstStation, chain}
-use Rattle.itinerary.specs.Itinerary.{stationRecords, stationWithin, stationAt, stations, soundWithin, arrivalsFit, tablesSound, fitsWithin, itineraryFits}
+use Rattle.itinerary.specs.Itinerary.{stationRecords, stationWithin, stationAt, stations}
+use Rattle.itinerary.specs.Itinerary.{soundWithin, arrivalsFit, tablesSound, fitsWithin, itineraryFits}
 use Rattle.itinerary.proofs.Stations.{count-by-records, next-record, station-from-record}
 use Rattle.journey.specs.Check.{segmentFits, jointFits, startOf, countOf, hopOf, noStation, stationOf, segmentPasses, jointPasses}
 use Rattle.journey.proofs.Facts.{Shape, all-long, station-among, start-enough}
@@ -50,33 +51,35 @@ module _ (layout : Layout) (itinerary : List ℕ) where
       go true h = omega arith
       go false h = omega arith
 
+  -- so many places on in the chain, so many records on
   record-after : (place m : ℕ) → place + m < length records
       → getD records (place + m) 0 ≡ recordAfter layout itinerary (getD records place 0) m
   unfolding recordAfter
   record-after place zero h = let e : place + 0 ≡ place = omega arith in rw e
   record-after place (suc m) h =
       let e : place + suc m ≡ suc (place + m) = omega arith in
-      let short = chain-short (recordCount layout itinerary) (firstStation layout itinerary) in
-      rw (
-        e,
-        next-record layout itinerary (recordCount layout itinerary) (firstStation layout itinerary) (place + m) (omega arith) (omega arith),
-        record-after place m (omega arith),
-      )
+      let limit = recordCount layout itinerary in
+      let first = firstStation layout itinerary in
+      let short = chain-short limit first in
+      rw (e, next-record layout itinerary limit first (place + m) (omega arith) (omega arith), record-after place m (omega arith))
 
   module _ (path : List ℕ) (matched : Matched layout itinerary path) where
     shape : Shape path
     shape = fit-shape path (matched .fit)
 
+    -- no segment starts before its number
     pub starts-behind : (s : ℕ) → s < infos path → s ≤ startOf path s
     starts-behind s h = start-enough shape s h
 
     pub some-hops : (s : ℕ) → s < infos path → 2 ≤ countOf path s
     some-hops s h = all-long shape s h
 
+    -- each hop has a station
     among : (s m : ℕ) → s < infos path → m < countOf path s → startOf path s - s + m < length records
     among s m h w =
         let there = station-among shape s m h w in
-        let many = sym (count-by-records layout itinerary (recordCount layout itinerary) (recordCount layout itinerary)) ∙ matched .counted in
+        let limit = recordCount layout itinerary in
+        let many = sym (count-by-records layout itinerary limit limit) ∙ matched .counted in
         omega (arith, there, starts-behind s h, many)
 
     station-read : (s m : ℕ) → s < infos path → m < countOf path s
@@ -94,13 +97,12 @@ module _ (layout : Layout) (itinerary : List ℕ) where
     unfolding segmentPasses segmentFits
     segment-read earliest latest s h {first} e =
         ap (λ (b : Bool). leb (timestamp (infoField path s)) earliest && b)
-        (all-same (countOf path s) _ _
-        (λ m w. rw (e, ← station-read s m h w)))
+        (all-same (countOf path s) _ _ (λ m w. rw (e, ← station-read s m h w)))
 
     pub joint-read : (earliest latest s : ℕ) → s + 1 < infos path → {station : ℕ}
         → station ≡ getD records (startOf path (s + 1) - (s + 1)) 0
-        → jointFits (stationAt layout itinerary station) (infoField path s) (hopOf path s (countOf path s - 1)) (infoField path (s + 1))
-        (hopOf path (s + 1) 0)
+        → jointFits (stationAt layout itinerary station) (infoField path s) (hopOf path s (countOf path s - 1))
+        (infoField path (s + 1)) (hopOf path (s + 1) 0)
         ≡ jointPasses (stations layout itinerary) earliest latest path s
     unfolding jointPasses recordAfter
     joint-read earliest latest s h {station} e =

@@ -1,7 +1,7 @@
--- The SegID of a hop, from that of the hop before it; and the record of a station, from that of the station before it.
+-- What the loop along a segment owes: the SegID and the station's record of a hop, each from those of the hop before it.
 -- Assumes nothing.
 use mathlib.Core.Path.{_≡_, refl, _∙_}
-use mathlib.Core.Bool.{false, Bool}
+use mathlib.Core.Bool.{Bool, false}
 use mathlib.Core.List.{List}
 use Prim.Native.Nat.{ℕ, zero, suc, _+_, _-_, _≤_, _<_}
 use native.Mathlib.Omega.{arith}

@@ -65,7 +65,8 @@ fn joint_passes(itinerary: &[u8], path: &[u8], segment: u8) -> bool
 
 pub fn joints_pass(itinerary: &[u8], path: &[u8]) -> bool
     requires { ⌜ Matched narrow (now itinerary) (now path) ⌝ }
-    ensures { λ r. ⌜ r ≡ all (infos (now (path .entry)) - 1) (jointPasses (stations narrow (now (itinerary .entry))) 0 0 (now (path .entry))) ⌝ }
+    ensures { λ r. ⌜ r ≡ all (infos (now (path .entry)) - 1)
+        (jointPasses (stations narrow (now (itinerary .entry))) 0 0 (now (path .entry))) ⌝ }
 {
     let infos = view::info_field_count(path);
     let mut segment: u8 = 0;

@@ -65,8 +65,9 @@ fn segment_fits(
     segment: u8,
 ) -> bool
     requires { ⌜ now table ≡ roundTable ⌝ }
-    ensures { λ r. ⌜ r ≡ segmentFits (λ m. stationAt narrow (now (itinerary .entry)) (recordAfter narrow (now (itinerary .entry)) first m))
-        earliest latest (infoField (now (path .entry)) segment) (hopOf (now (path .entry)) segment) (countOf (now (path .entry)) segment) ⌝ }
+    ensures { λ r. ⌜ r ≡ segmentFits
+        (λ m. stationAt narrow (now (itinerary .entry)) (recordAfter narrow (now (itinerary .entry)) first m)) earliest latest
+        (infoField (now (path .entry)) segment) (hopOf (now (path .entry)) segment) (countOf (now (path .entry)) segment) ⌝ }
 {
     let info = view::info_field(path, segment);
     if earliest < view::info_timestamp(info) {

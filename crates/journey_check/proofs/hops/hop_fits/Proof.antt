@@ -9,11 +9,52 @@ use Rattle.journey_check.proofs.hops.hop_fits.Tie as tie
 
 returns : tie.Need-returns
 unfolding hopFits macFits arrivesBy leavesBy
-returns c = rw (← c .before .before .before .before .before .before .before .before .before .before .pre .1 .0, ← key-read narrow _ _, ← c .before .before .before .before .before .key .ensures, ← c .before .before .before .before .before .before .before .info-field .ensures, ← c .before .before .before .before .before .before .hop-of .ensures, ← c .before .before .before .before .expiry-timestamp .ensures, ← c .before .before .before .mac-fits .ensures, ← c .before .before .arrives-by .ensures, ← c .before .hop-count .ensures .0, le-leb _ _ (c .if1 .taken), and-true)
+returns c =
+    let pre = c .before .before .before .before .before .before .before .before .before .before .pre in
+    let key = c .before .before .before .before .before .key in
+    let info-field = c .before .before .before .before .before .before .before .info-field in
+    let hop-of = c .before .before .before .before .before .before .hop-of in
+    let expiry-timestamp = c .before .before .before .before .expiry-timestamp in
+    let mac-fits = c .before .before .before .mac-fits in
+    let arrives-by = c .before .before .arrives-by in
+    rw (
+      ← pre .1 .0,
+      ← key-read narrow _ _,
+      ← key .ensures,
+      ← info-field .ensures,
+      ← hop-of .ensures,
+      ← expiry-timestamp .ensures,
+      ← mac-fits .ensures,
+      ← arrives-by .ensures,
+      ← c .before .hop-count .ensures .0,
+      le-leb _ _ (c .if1 .taken),
+      and-true,
+    )
 
 returns-2 : tie.Need-returns-2
 unfolding hopFits macFits arrivesBy leavesBy
-returns-2 c = rw (← c .before .before .before .before .before .before .before .before .before .before .before .pre .1 .0, ← key-read narrow _ _, ← c .before .before .before .before .before .before .key .ensures, ← c .before .before .before .before .before .before .before .before .info-field .ensures, ← c .before .before .before .before .before .before .before .hop-of .ensures, ← c .before .before .before .before .before .expiry-timestamp .ensures, ← c .before .before .before .before .mac-fits .ensures, ← c .before .before .before .arrives-by .ensures, ← c .before .before .hop-count .ensures .0, lt-leb _ _ (c .before .if1 .left), ← c .leaves-by .ensures)
+returns-2 c =
+    let pre = c .before .before .before .before .before .before .before .before .before .before .before .pre in
+    let key = c .before .before .before .before .before .before .key in
+    let info-field = c .before .before .before .before .before .before .before .before .info-field in
+    let hop-of = c .before .before .before .before .before .before .before .hop-of in
+    let expiry-timestamp = c .before .before .before .before .before .expiry-timestamp in
+    let mac-fits = c .before .before .before .before .mac-fits in
+    let arrives-by = c .before .before .before .arrives-by in
+    let hop-count = c .before .before .hop-count in
+    rw (
+      ← pre .1 .0,
+      ← key-read narrow _ _,
+      ← key .ensures,
+      ← info-field .ensures,
+      ← hop-of .ensures,
+      ← expiry-timestamp .ensures,
+      ← mac-fits .ensures,
+      ← arrives-by .ensures,
+      ← hop-count .ensures .0,
+      lt-leb _ _ (c .before .if1 .left),
+      ← c .leaves-by .ensures,
+    )
 
 pub hop-fits-spec : {M : Type 1} → statement M
 hop-fits-spec =

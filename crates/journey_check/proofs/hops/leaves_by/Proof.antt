@@ -5,11 +5,18 @@ use Rattle.journey_check.proofs.hops.leaves_by.Tie as tie
 
 returns : tie.Need-returns
 unfolding leavesBy
-returns c = rw (← c .before .before .before .before .before .egress-interface .ensures, ← c .before .before .before .before .lookup .ensures, c .before .before .state .given .1) (c .is-up .ensures)
+returns c =
+    let egress-interface = c .before .before .before .before .before .egress-interface in
+    let lookup = c .before .before .before .before .lookup in
+    let state = c .before .before .state in
+    rw (← egress-interface .ensures, ← lookup .ensures, state .given .1) (c .is-up .ensures)
 
 returns-2 : tie.Need-returns-2
 unfolding leavesBy
-returns-2 c = rw (← c .before .before .before .egress-interface .ensures, ← c .before .before .lookup .ensures, c .enum-told .given .1)
+returns-2 c =
+    let egress-interface = c .before .before .before .egress-interface in
+    let lookup = c .before .before .lookup in
+    rw (← egress-interface .ensures, ← lookup .ensures, c .enum-told .given .1)
 
 pub leaves-by-spec : {M : Type 1} → statement M
 leaves-by-spec =

@@ -5,11 +5,32 @@ use Rattle.journey_check.proofs.joints.joint_fits.Tie as tie
 
 returns : tie.Need-returns
 unfolding jointFits
-returns c = rw (← c .before .before .before .ingress-interface .ensures, ← c .before .before .lookup .ensures, c .enum-told .given .1)
+returns c =
+    let ingress-interface = c .before .before .before .ingress-interface in
+    let lookup = c .before .before .lookup in
+    rw (← ingress-interface .ensures, ← lookup .ensures, c .enum-told .given .1)
 
 returns-2 : tie.Need-returns-2
 unfolding jointFits
-returns-2 c = rw (← c .before .before .before .before .before .before .before .before .before .before .ingress-interface .ensures, ← c .before .before .before .before .before .before .before .before .before .lookup .ensures, c .before .before .before .before .before .before .before .state .given .1, ← c .before .before .before .before .before .egress-interface .ensures, ← c .before .before .before .before .lookup2 .ensures, ← c .before .before .link-of .ensures, ← c .before .before .before .link-type .ensures, ← c .before .is-allowed-pair .ensures, ← c .arrives-by .ensures)
+returns-2 c =
+    let ingress-interface = c .before .before .before .before .before .before .before .before .before .before .ingress-interface in
+    let lookup = c .before .before .before .before .before .before .before .before .before .lookup in
+    let state = c .before .before .before .before .before .before .before .state in
+    let egress-interface = c .before .before .before .before .before .egress-interface in
+    let lookup2 = c .before .before .before .before .lookup2 in
+    let link-of = c .before .before .link-of in
+    let link-type = c .before .before .before .link-type in
+    rw (
+      ← ingress-interface .ensures,
+      ← lookup .ensures,
+      state .given .1,
+      ← egress-interface .ensures,
+      ← lookup2 .ensures,
+      ← link-of .ensures,
+      ← link-type .ensures,
+      ← c .before .is-allowed-pair .ensures,
+      ← c .arrives-by .ensures,
+    )
 
 pub joint-fits-spec : {M : Type 1} → statement M
 joint-fits-spec =

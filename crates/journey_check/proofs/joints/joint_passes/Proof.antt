@@ -8,16 +8,36 @@ use Rattle.journey_check.proofs.joints.joint_passes.Statement.{statemen
 use Rattle.journey_check.proofs.joints.joint_passes.Tie as tie
 
 add-next : tie.Need-add-next
-add-next c = omega (arith, at-most-three _ _ (c .before .before .pre .1))
+add-next c =
+    let pre = c .before .before .pre in
+    omega (arith, at-most-three _ _ (pre .1))
 
 first-station-requires : tie.Need-first-station-requires
-first-station-requires c κs = starts-behind narrow _ _ (c .before .before .pre .0) _ (c .before .before .pre .1)
+first-station-requires c κs =
+    let pre = c .before .before .pre in
+    starts-behind narrow _ _ (pre .0) _ (pre .1)
 
 sub-hop-of : tie.Need-sub-hop-of
-sub-hop-of c = omega (arith, c .hop-count .ensures .0, some-hops narrow _ (c .before .before .before .before .before .args .path .now) (c .before .before .before .before .before .pre .0) (c .before .before .before .before .before .args .segment) (omega (arith, c .before .before .before .before .before .pre .1)))
+sub-hop-of c =
+    let args = c .before .before .before .before .before .args in
+    let pre = c .before .before .before .before .before .pre in
+    omega (arith, c .hop-count .ensures .0, some-hops narrow _ (args .path .now) (pre .0) (args .segment) (omega (arith, pre .1)))
 
 returns : tie.Need-returns
-returns c = rw (c .before .before .before .before .before .info-field .ensures, c .before .before .before .hop-of .ensures, c .before .before .before .before .hop-count .ensures .0, c .before .before .info-field2 .ensures, c .before .hop-of2 .ensures) at (c .joint-fits .ensures) ∙ joint-read narrow _ _ (c .before .before .before .before .before .before .before .before .before .pre .0) 0 0 _ (c .before .before .before .before .before .before .before .before .before .pre .1) (c .before .before .before .before .before .before .first-station .ensures)
+returns c =
+    let info-field = c .before .before .before .before .before .info-field in
+    let hop-of = c .before .before .before .hop-of in
+    let hop-count = c .before .before .before .before .hop-count in
+    let info-field2 = c .before .before .info-field2 in
+    let pre = c .before .before .before .before .before .before .before .before .before .pre in
+    let first-station = c .before .before .before .before .before .before .first-station in
+    rw (
+      info-field .ensures,
+      hop-of .ensures,
+      hop-count .ensures .0,
+      info-field2 .ensures,
+      c .before .hop-of2 .ensures,
+    ) at (c .joint-fits .ensures) ∙ joint-read narrow _ _ (pre .0) 0 0 _ (pre .1) (first-station .ensures)
 
 pub joint-passes-spec : {M : Type 1} → statement M
 joint-passes-spec =

@@ -22,16 +22,26 @@ add-loop : tie.Need-add-loop Inv-loop μ-loop
 add-loop c = omega (arith, c .loop .inv .within)
 
 joint-passes-requires : tie.Need-joint-passes-requires Inv-loop μ-loop
-joint-passes-requires c κs = (c .before .before .before .before .before .pre, omega (arith, c .before .before .info-field-count .ensures))
+joint-passes-requires c κs =
+    let pre = c .before .before .before .before .before .pre in
+    let info-field-count = c .before .before .info-field-count in
+    (pre, omega (arith, info-field-count .ensures))
 
 returns : tie.Need-returns Inv-loop μ-loop
-returns c = rw (← c .before .before .before .before .info-field-count .ensures) (asked-no (c .before .before .before .loop .inv) (omega arith) (c .before .joint-passes .ensures) (c .if1 .taken))
+returns c =
+    let info-field-count = c .before .before .before .before .info-field-count in
+    let loop = c .before .before .before .loop in
+    rw (← info-field-count .ensures) (asked-no (loop .inv) (omega arith) (c .before .joint-passes .ensures) (c .if1 .taken))
 
 loop-again : tie.Need-loop-again Inv-loop μ-loop
-loop-again c = asked-yes (c .before .before .before .loop .inv) (omega arith) (c .before .joint-passes .ensures) (c .if1 .left)
+loop-again c =
+    let loop = c .before .before .before .loop in
+    asked-yes (loop .inv) (omega arith) (c .before .joint-passes .ensures) (c .if1 .left)
 
 returns-2 : tie.Need-returns-2 Inv-loop μ-loop
-returns-2 c = rw (← c .before .before .info-field-count .ensures) (asked-all (c .before .loop .inv) (omega arith))
+returns-2 c =
+    let info-field-count = c .before .before .info-field-count in
+    rw (← info-field-count .ensures) (asked-all (c .before .loop .inv) (omega arith))
 
 pub joints-pass-spec : {M : Type 1} → statement M
 joints-pass-spec =

@@ -3,7 +3,9 @@ use Rattle.journey_check.proofs.joints.link_of.Statement.{statement}
 use Rattle.journey_check.proofs.joints.link_of.Tie as tie
 
 returns : tie.Need-returns
-returns c = rw (c .before .before .listed .given .1) (c .link-type .ensures)
+returns c =
+    let listed = c .before .before .listed in
+    rw (listed .given .1) (c .link-type .ensures)
 
 returns-2 : tie.Need-returns-2
 returns-2 c = rw (c .enum-told .given .1)

@@ -15,22 +15,77 @@ returns c = rw (← c .before .itinerary-fits .ensures, not-true (c .before .iti
 
 returns-2 : tie.Need-returns-2
 unfolding firstNo
-returns-2 c = rw (← c .before .before .before .itinerary-fits .ensures, not-false (c .before .before .before .itinerary-fits .result) (c .before .before .if1 .left), ← c .before .is-at-start .ensures, not-true (c .before .is-at-start .result) (c .if2 .taken))
+returns-2 c =
+    let itinerary-fits = c .before .before .before .itinerary-fits in
+    let if1 = c .before .before .if1 in
+    rw (
+      ← itinerary-fits .ensures,
+      not-false (itinerary-fits .result) (if1 .left),
+      ← c .before .is-at-start .ensures,
+      not-true (c .before .is-at-start .result) (c .if2 .taken),
+    )
 
 returns-3 : tie.Need-returns-3
 unfolding firstNo
-returns-3 c = rw (← c .before .before .before .before .before .itinerary-fits .ensures, not-false (c .before .before .before .before .before .itinerary-fits .result) (c .before .before .before .before .if1 .left), ← c .before .before .before .is-at-start .ensures, not-false (c .before .before .before .is-at-start .result) (c .before .before .if2 .left), ← c .before .is-quiet .ensures, not-true (c .before .is-quiet .result) (c .if3 .taken))
+returns-3 c =
+    let itinerary-fits = c .before .before .before .before .before .itinerary-fits in
+    let if1 = c .before .before .before .before .if1 in
+    let is-at-start = c .before .before .before .is-at-start in
+    let if2 = c .before .before .if2 in
+    rw (
+      ← itinerary-fits .ensures,
+      not-false (itinerary-fits .result) (if1 .left),
+      ← is-at-start .ensures,
+      not-false (is-at-start .result) (if2 .left),
+      ← c .before .is-quiet .ensures,
+      not-true (c .before .is-quiet .result) (c .if3 .taken),
+    )
 
 passes-requires : tie.Need-passes-requires
-passes-requires c κs = fits-counted narrow _ _ (first-of _ _ (sym (c .before .before .before .before .before .itinerary-fits .ensures) ∙ not-false (c .before .before .before .before .before .itinerary-fits .result) (c .before .before .before .before .if1 .left)))
+passes-requires c κs =
+    let itinerary-fits = c .before .before .before .before .before .itinerary-fits in
+    let if1 = c .before .before .before .before .if1 in
+    fits-counted narrow _ _ (first-of _ _ (sym (itinerary-fits .ensures) ∙ not-false (itinerary-fits .result) (if1 .left)))
 
 returns-4 : tie.Need-returns-4
 unfolding firstNo
-returns-4 c = rw (← c .before .before .before .before .before .before .before .itinerary-fits .ensures, not-false (c .before .before .before .before .before .before .before .itinerary-fits .result) (c .before .before .before .before .before .before .if1 .left), ← c .before .before .before .before .before .is-at-start .ensures, not-false (c .before .before .before .before .before .is-at-start .result) (c .before .before .before .before .if2 .left), ← c .before .before .before .is-quiet .ensures, not-false (c .before .before .before .is-quiet .result) (c .before .before .if3 .left), ← c .before .passes .ensures, c .if4 .taken)
+returns-4 c =
+    let itinerary-fits = c .before .before .before .before .before .before .before .itinerary-fits in
+    let if1 = c .before .before .before .before .before .before .if1 in
+    let is-at-start = c .before .before .before .before .before .is-at-start in
+    let if2 = c .before .before .before .before .if2 in
+    let is-quiet = c .before .before .before .is-quiet in
+    let if3 = c .before .before .if3 in
+    rw (
+      ← itinerary-fits .ensures,
+      not-false (itinerary-fits .result) (if1 .left),
+      ← is-at-start .ensures,
+      not-false (is-at-start .result) (if2 .left),
+      ← is-quiet .ensures,
+      not-false (is-quiet .result) (if3 .left),
+      ← c .before .passes .ensures,
+      c .if4 .taken,
+    )
 
 returns-5 : tie.Need-returns-5
 unfolding firstNo
-returns-5 c = rw (← c .before .before .before .before .before .before .before .itinerary-fits .ensures, not-false (c .before .before .before .before .before .before .before .itinerary-fits .result) (c .before .before .before .before .before .before .if1 .left), ← c .before .before .before .before .before .is-at-start .ensures, not-false (c .before .before .before .before .before .is-at-start .result) (c .before .before .before .before .if2 .left), ← c .before .before .before .is-quiet .ensures, not-false (c .before .before .before .is-quiet .result) (c .before .before .if3 .left), ← c .before .passes .ensures, c .if4 .left)
+returns-5 c =
+    let itinerary-fits = c .before .before .before .before .before .before .before .itinerary-fits in
+    let if1 = c .before .before .before .before .before .before .if1 in
+    let is-at-start = c .before .before .before .before .before .is-at-start in
+    let if2 = c .before .before .before .before .if2 in
+    let is-quiet = c .before .before .before .is-quiet in
+    let if3 = c .before .before .if3 in
+    rw (
+      ← itinerary-fits .ensures,
+      not-false (itinerary-fits .result) (if1 .left),
+      ← is-at-start .ensures,
+      not-false (is-at-start .result) (if2 .left),
+      ← is-quiet .ensures,
+      not-false (is-quiet .result) (if3 .left),
+      ← c .before .passes .ensures,
+      c .if4 .left,
+    )
 
 pub check-complete-spec : {M : Type 1} → statement M
 check-complete-spec =

@@ -9,7 +9,8 @@ use Rattle.journey_check.proofs.questions.is_quiet.Statement.{statement
 use Rattle.journey_check.proofs.questions.is_quiet.Tie as tie
 
 abbrev Inv-loop : tie.InvT-loop
-Inv-loop path hops index₀ index = Asked (λ j. not (consIngressAlert (hopField path j)) && not (consEgressAlert (hopField path j))) hops index
+Inv-loop path hops index₀ index =
+    Asked (λ j. not (consIngressAlert (hopField path j)) && not (consEgressAlert (hopField path j))) hops index
 
 abbrev μ-loop : tie.MeasureT-loop
 μ-loop path hops index₀ index = hops - index
@@ -19,14 +20,26 @@ loop-holds c = asked-none _ _
 
 returns : tie.Need-returns Inv-loop μ-loop
 unfolding quiet
-returns c = rw (← c .before .before .before .before .before .hop-field-count .ensures) (asked-no (c .before .before .before .before .loop .inv) (c .before .before .before .loop-test .taken) (rw (c .before .before .hop-field .ensures) at (c .before .is-hop-quiet .ensures)) (c .if1 .taken))
+returns c =
+    let hop-field-count = c .before .before .before .before .before .hop-field-count in
+    let loop = c .before .before .before .before .loop in
+    let loop-test = c .before .before .before .loop-test in
+    let hop-field = c .before .before .hop-field in
+    rw (← hop-field-count .ensures)
+    (asked-no (loop .inv) (loop-test .taken) (rw (hop-field .ensures) at (c .before .is-hop-quiet .ensures)) (c .if1 .taken))
 
 loop-again : tie.Need-loop-again Inv-loop μ-loop
-loop-again c = asked-yes (c .before .before .before .before .loop .inv) (c .before .before .before .loop-test .taken) (rw (c .before .before .hop-field .ensures) at (c .before .is-hop-quiet .ensures)) (c .if1 .left)
+loop-again c =
+    let loop = c .before .before .before .before .loop in
+    let loop-test = c .before .before .before .loop-test in
+    let hop-field = c .before .before .hop-field in
+    asked-yes (loop .inv) (loop-test .taken) (rw (hop-field .ensures) at (c .before .is-hop-quiet .ensures)) (c .if1 .left)
 
 returns-2 : tie.Need-returns-2 Inv-loop μ-loop
 unfolding quiet
-returns-2 c = rw (← c .before .before .hop-field-count .ensures) (asked-all (c .before .loop .inv) (c .loop-test .left))
+returns-2 c =
+    let hop-field-count = c .before .before .hop-field-count in
+    rw (← hop-field-count .ensures) (asked-all (c .before .loop .inv) (c .loop-test .left))
 
 pub is-quiet-spec : {M : Type 1} → statement M
 is-quiet-spec =

@@ -10,7 +10,9 @@ sub-result c = omega (arith, c .before .hop-field-count .ensures, c .info-field-
 
 add-result : tie.Need-add-result
 unfolding hops
-add-result c = let known = c .before .before .shared-slice-known .given in omega (arith, c .before .hop-field-count .ensures, known 1, known 2, known 3)
+add-result c =
+    let shared-slice-known = c .before .before .shared-slice-known in
+    let known = shared-slice-known .given in omega (arith, c .before .hop-field-count .ensures, known 1, known 2, known 3)
 
 pub station-count-spec : {M : Type 1} → statement M
 station-count-spec =

@@ -11,18 +11,29 @@ use Rattle.journey_check.proofs.segments.chained_segment_id.Statement.{
 use Rattle.journey_check.proofs.segments.chained_segment_id.Tie as tie
 
 returns : tie.Need-returns
-returns c = let first : c .before .before .before .before .args .hop - 1 ≡ c .before .before .before .before .args .hop = omega arith in rw first at (c .before .before .before .before .pre .0)
+returns c =
+    let args = c .before .before .before .before .args in
+    let pre = c .before .before .before .before .pre in
+    let first : args .hop - 1 ≡ args .hop = omega arith in rw first at (pre .0)
 
 hop-of-requires : tie.Need-hop-of-requires
-hop-of-requires c κs = ⊎-elim (λ w. omega (arith, w .1, c .before .before .before .before .before .pre .1)) (λ w. omega (arith, w .1, c .before .before .before .before .before .pre .1)) (c .if2 .came)
+hop-of-requires c κs =
+    let pre = c .before .before .before .before .before .pre in
+    ⊎-elim (λ w. omega (arith, w .1, pre .1)) (λ w. omega (arith, w .1, pre .1)) (c .if2 .came)
 
 returns-2 : tie.Need-returns-2
 returns-2 c =
-    let info = infoField (c .before .before .before .before .before .before .before .before .args .path .now) (c .before .before .before .before .before .before .before .before .args .segment) in
-    let dir : c .before .before .before .before .before .cons-dir .result ≡ consDir info = c .before .before .before .before .before .cons-dir .ensures ∙ ap consDir (c .before .before .before .before .before .before .info-field .ensures) in
-    chained-more info (hopOf (c .before .before .before .before .before .before .before .before .args .path .now) (c .before .before .before .before .before .before .before .before .args .segment)) (c .before .before .before .before .before .before .before .before .args .hop) (omega arith) (c .before .before .before .before .before .before .before .before .pre .0)
-    (⊎-elim (λ w. w .1 ∙ rw (← dir, w .0 .taken) (omega arith)) (λ w. w .1 ∙ rw (← dir, w .0 .left) (omega arith)) (c .before .before .before .if2 .came))
-    (c .before .before .hop-of .ensures) (rw (c .before .mac .ensures) at (c .mac-beta-step .ensures))
+    let args = c .before .before .before .before .before .before .before .before .args in
+    let cons-dir = c .before .before .before .before .before .cons-dir in
+    let info-field = c .before .before .before .before .before .before .info-field in
+    let pre = c .before .before .before .before .before .before .before .before .pre in
+    let if2 = c .before .before .before .if2 in
+    let hop-of = c .before .before .hop-of in
+    let info = infoField (args .path .now) (args .segment) in
+    let dir : cons-dir .result ≡ consDir info = cons-dir .ensures ∙ ap consDir (info-field .ensures) in
+    chained-more info (hopOf (args .path .now) (args .segment)) (args .hop) (omega arith) (pre .0)
+    (⊎-elim (λ w. w .1 ∙ rw (← dir, w .0 .taken) (omega arith)) (λ w. w .1 ∙ rw (← dir, w .0 .left) (omega arith)) (if2 .came))
+    (hop-of .ensures) (rw (c .before .mac .ensures) at (c .mac-beta-step .ensures))
 
 pub chained-segment-id-spec : {M : Type 1} → statement M
 chained-segment-id-spec =

@@ -9,43 +9,68 @@ use Rattle.journey_check.proofs.segments.segment_fits.Statement.{statem
 use Rattle.journey_check.proofs.segments.segment_fits.Tie as tie
 
 abbrev Inv-loop : tie.InvT-loop
-Inv-loop table itinerary first earliest latest path segment count station₀ segment-id₀ hop₀ station segment-id hop = Walked itinerary first latest path segment station segment-id hop
+Inv-loop table itinerary first earliest latest path segment count station₀ segment-id₀ hop₀ station segment-id hop =
+    Walked itinerary first latest path segment station segment-id hop
 
 abbrev μ-loop : tie.MeasureT-loop
 μ-loop table itinerary first earliest latest path segment count station₀ segment-id₀ hop₀ station segment-id hop = count - hop
 
 returns : tie.Need-returns Inv-loop μ-loop
-returns c = segment-early _ _ _ _ _ _ (c .before .info-timestamp .ensures ∙ ap timestamp (c .before .before .info-field .ensures)) (c .if1 .taken)
+returns c =
+    let info-field = c .before .before .info-field in
+    segment-early _ _ _ _ _ _ (c .before .info-timestamp .ensures ∙ ap timestamp (info-field .ensures)) (c .if1 .taken)
 
 loop-holds : tie.Need-loop-holds Inv-loop μ-loop
-loop-holds c = walked-none _ _ _ _ _ (c .segment-id .ensures ∙ ap segId (c .before .before .before .before .info-field .ensures))
+loop-holds c =
+    let info-field = c .before .before .before .before .info-field in
+    walked-none _ _ _ _ _ (c .segment-id .ensures ∙ ap segId (info-field .ensures))
 
 chained-segment-id-requires : tie.Need-chained-segment-id-requires Inv-loop μ-loop
-chained-segment-id-requires c κs = (c .before .loop .inv .chained, omega (arith, c .before .before .before .hop-count .ensures .1))
+chained-segment-id-requires c κs =
+    let hop-count = c .before .before .before .hop-count in
+    (c .before .loop .inv .chained, omega (arith, hop-count .ensures .1))
 
 hop-fits-requires : tie.Need-hop-fits-requires Inv-loop μ-loop
-hop-fits-requires c κs = (c .before .before .before .before .before .before .before .before .before .before .pre, (c .chained-segment-id .ensures, omega (arith, c .before .before .before .before .hop-count .ensures .1)))
+hop-fits-requires c κs =
+    let pre = c .before .before .before .before .before .before .before .before .before .before .pre in
+    let hop-count = c .before .before .before .before .hop-count in
+    (pre, (c .chained-segment-id .ensures, omega (arith, hop-count .ensures .1)))
 
 returns-2 : tie.Need-returns-2 Inv-loop μ-loop
 returns-2 c =
-    let walked = c .before .before .before .before .loop .inv in
-    segment-begun _ _ _ _ _ _ (c .before .before .before .before .before .before .before .before .info-timestamp .ensures ∙ ap timestamp (c .before .before .before .before .before .before .before .before .before .info-field .ensures)) (c .before .before .before .before .before .before .before .if1 .left)
-    (asked-no (walked .asked) (omega (arith, c .before .before .before .before .before .before .hop-count .ensures .0)) (rw (walked .reached) at (c .before .hop-fits .ensures)) (c .if2 .taken))
+    let loop = c .before .before .before .before .loop in
+    let info-timestamp = c .before .before .before .before .before .before .before .before .info-timestamp in
+    let info-field = c .before .before .before .before .before .before .before .before .before .info-field in
+    let if1 = c .before .before .before .before .before .before .before .if1 in
+    let hop-count = c .before .before .before .before .before .before .hop-count in
+    let walked = loop .inv in
+    segment-begun _ _ _ _ _ _ (info-timestamp .ensures ∙ ap timestamp (info-field .ensures)) (if1 .left)
+    (asked-no (walked .asked) (omega (arith, hop-count .ensures .0)) (rw (walked .reached) at (c .before .hop-fits .ensures))
+    (c .if2 .taken))
 
 loop-again : tie.Need-loop-again Inv-loop μ-loop
 loop-again c =
-    let walked = c .before .before .before .before .before .loop .inv in
-    let less : c .before .before .before .before .before .loop .hop + 1 - 1 ≡ c .before .before .before .before .before .loop .hop = omega arith in
+    let loop = c .before .before .before .before .before .loop in
+    let hop-count = c .before .before .before .before .before .before .before .hop-count in
+    let hop-fits = c .before .before .hop-fits in
+    let chained-segment-id = c .before .before .before .chained-segment-id in
+    let walked = loop .inv in
+    let less : loop .hop + 1 - 1 ≡ loop .hop = omega arith in
     record {
-      asked = asked-yes (walked .asked) (omega (arith, c .before .before .before .before .before .before .before .hop-count .ensures .0)) (rw (walked .reached) at (c .before .before .hop-fits .ensures)) (c .before .if2 .left);
+      asked = asked-yes (walked .asked) (omega (arith, hop-count .ensures .0)) (rw (walked .reached) at (hop-fits .ensures))
+          (c .before .if2 .left);
       reached = record-more _ _ _ (walked .reached) (c .next .ensures);
-      chained = rw less (c .before .before .before .chained-segment-id .ensures);
+      chained = rw less (chained-segment-id .ensures);
     }
 
 returns-3 : tie.Need-returns-3 Inv-loop μ-loop
 returns-3 c =
-    segment-begun _ _ _ _ _ _ (c .before .before .before .before .before .info-timestamp .ensures ∙ ap timestamp (c .before .before .before .before .before .before .info-field .ensures)) (c .before .before .before .before .if1 .left)
-    (asked-all (c .before .loop .inv .asked) (omega (arith, c .before .before .before .hop-count .ensures .0)))
+    let info-timestamp = c .before .before .before .before .before .info-timestamp in
+    let info-field = c .before .before .before .before .before .before .info-field in
+    let if1 = c .before .before .before .before .if1 in
+    let hop-count = c .before .before .before .hop-count in
+    segment-begun _ _ _ _ _ _ (info-timestamp .ensures ∙ ap timestamp (info-field .ensures)) (if1 .left)
+    (asked-all (c .before .loop .inv .asked) (omega (arith, hop-count .ensures .0)))
 
 pub segment-fits-spec : {M : Type 1} → statement M
 segment-fits-spec =

@@ -6,10 +6,14 @@ use Rattle.journey_check.proofs.segments.segment_passes.Statement.{stat
 use Rattle.journey_check.proofs.segments.segment_passes.Tie as tie
 
 first-station-requires : tie.Need-first-station-requires
-first-station-requires c κs = starts-behind narrow _ _ (c .before .before .pre .1 .0) _ (c .before .before .pre .1 .1)
+first-station-requires c κs =
+    let pre = c .before .before .pre in
+    starts-behind narrow _ _ (pre .1 .0) _ (pre .1 .1)
 
 returns : tie.Need-returns
-returns c = c .segment-fits .ensures ∙ segment-read narrow _ _ (c .before .before .before .before .pre .1 .0) _ _ _ (c .before .before .before .before .pre .1 .1) (c .before .first-station .ensures)
+returns c =
+    let pre = c .before .before .before .before .pre in
+    c .segment-fits .ensures ∙ segment-read narrow _ _ (pre .1 .0) _ _ _ (pre .1 .1) (c .before .first-station .ensures)
 
 pub segment-passes-spec : {M : Type 1} → statement M
 segment-passes-spec = tie.close (tie.spec first-station-requires (λ c κs. search needs) returns)

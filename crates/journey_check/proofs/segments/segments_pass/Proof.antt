@@ -10,7 +10,8 @@ use Rattle.journey_check.proofs.segments.segments_pass.Statement.{state
 use Rattle.journey_check.proofs.segments.segments_pass.Tie as tie
 
 abbrev Inv-loop : tie.InvT-loop
-Inv-loop table itinerary earliest latest path infos segment₀ segment = Asked (segmentPasses (stations narrow itinerary) earliest latest path) infos segment
+Inv-loop table itinerary earliest latest path infos segment₀ segment =
+    Asked (segmentPasses (stations narrow itinerary) earliest latest path) infos segment
 
 abbrev μ-loop : tie.MeasureT-loop
 μ-loop table itinerary earliest latest path infos segment₀ segment = infos - segment
@@ -19,16 +20,29 @@ loop-holds : tie.Need-loop-holds Inv-loop μ-loop
 loop-holds c = asked-none _ _
 
 segment-passes-requires : tie.Need-segment-passes-requires Inv-loop μ-loop
-segment-passes-requires c κs = (c .before .before .before .before .before .pre .0, (c .before .before .before .before .before .pre .1, omega (arith, c .before .before .info-field-count .ensures)))
+segment-passes-requires c κs =
+    let pre = c .before .before .before .before .before .pre in
+    let info-field-count = c .before .before .info-field-count in
+    (pre .0, (pre .1, omega (arith, info-field-count .ensures)))
 
 returns : tie.Need-returns Inv-loop μ-loop
-returns c = rw (← c .before .before .before .before .info-field-count .ensures) (asked-no (c .before .before .before .loop .inv) (c .before .before .loop-test .taken) (c .before .segment-passes .ensures) (c .if1 .taken))
+returns c =
+    let info-field-count = c .before .before .before .before .info-field-count in
+    let loop = c .before .before .before .loop in
+    let loop-test = c .before .before .loop-test in
+    rw (← info-field-count .ensures)
+    (asked-no (loop .inv) (loop-test .taken) (c .before .segment-passes .ensures) (c .if1 .taken))
 
 loop-again : tie.Need-loop-again Inv-loop μ-loop
-loop-again c = asked-yes (c .before .before .before .loop .inv) (c .before .before .loop-test .taken) (c .before .segment-passes .ensures) (c .if1 .left)
+loop-again c =
+    let loop = c .before .before .before .loop in
+    let loop-test = c .before .before .loop-test in
+    asked-yes (loop .inv) (loop-test .taken) (c .before .segment-passes .ensures) (c .if1 .left)
 
 returns-2 : tie.Need-returns-2 Inv-loop μ-loop
-returns-2 c = rw (← c .before .before .info-field-count .ensures) (asked-all (c .before .loop .inv) (c .loop-test .left))
+returns-2 c =
+    let info-field-count = c .before .before .info-field-count in
+    rw (← info-field-count .ensures) (asked-all (c .before .loop .inv) (c .loop-test .left))
 
 pub segments-pass-spec : {M : Type 1} → statement M
 segments-pass-spec =
