@@ -1,6 +1,6 @@
 """Tries each line of mutations.tsv: a wrong change to a copy of the published Rust, which the check must report.
 
-    python3 mutate.py              the check is the comparison with the model in Python
+    python3 mutate.py              the check is a part of the differential run that the tests make
     python3 mutate.py COMMAND      another check, run by the shell; it must fail. SCION_SDK_SRC names the changed copy
 
 A line has, between tabs: the file's last names, which occurrence of the old text is meant, the old text, the new text.
@@ -14,7 +14,7 @@ from pathlib import Path
 HERE = Path(__file__).resolve().parent
 SOURCE = HERE.parent / os.environ.get("SCION_SDK_SRC", "../shared/docs/src")
 COPY = HERE / "target/mutation/src"
-COMPARE = "target/mutation/checked/sample 20000 100 1 256 | python3 cases/compare.py"
+COMPARE = "target/mutation/checked/beside 100000 1 64 5000"
 BUILD = "cargo build --quiet --offline --locked --profile checked --target-dir target/mutation"
 
 

@@ -74,6 +74,15 @@ unsafe extern "C" {
         earliest: u32,
         latest: u32,
     ) -> Reply;
+    fn scion_calculate_hop_mac(
+        segment_id: u16,
+        timestamp: u32,
+        exp_time: u8,
+        cons_ingress: u16,
+        cons_egress: u16,
+        key: *const [u8; 16],
+        mac: *mut [u8; 6],
+    );
 }
 
 /// The same call as [`Case::run`], on the archive.
@@ -127,6 +136,30 @@ pub fn check_journey(path: &[u8], itinerary: &[u8], earliest: u32, latest: u32) 
         )
     }
     .number
+}
+
+pub fn hop_mac(
+    segment_id: u16,
+    timestamp: u32,
+    exp_time: u8,
+    cons_ingress: u16,
+    cons_egress: u16,
+    key: &[u8; 16],
+) -> [u8; 6] {
+    let mut mac = [0; 6];
+    // SAFETY: `key` and `mac` are arrays that are borrowed for the call
+    unsafe {
+        scion_calculate_hop_mac(
+            segment_id,
+            timestamp,
+            exp_time,
+            cons_ingress,
+            cons_egress,
+            key,
+            &mut mac,
+        )
+    };
+    mac
 }
 
 fn answer(reply: Reply) -> Answer {

@@ -2,11 +2,11 @@
 //!
 //! `beside [cases of each family] [seed] [part of lengths] [journeys]`. The third number n takes every n-th triple of lengths; 1 takes all.
 
-mod archive;
 mod plans;
 
 use std::{process::ExitCode, time::Instant};
 
+use beside::archive;
 use oracle::{Answer, Case, case, counts::Counts, inputs};
 
 fn main() -> ExitCode {

@@ -6,7 +6,7 @@
 use oracle::{inputs::rng::Rng, number};
 use sciparse::dataplane_path::standard::mac::algo::{calculate_hop_mac, mac_beta_step};
 
-use crate::archive;
+use beside::archive;
 
 const RECORD: usize = 32;
 const PASSED: u16 = 120;

@@ -1,0 +1,3 @@
+//! The Rattle archive as the differential run calls it.
+
+pub mod archive;
