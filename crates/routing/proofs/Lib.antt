@@ -5,3 +5,4 @@ pub mod Touched
 pub mod Inside
 pub mod Whole
 pub mod Numbers
+pub mod Unchecked

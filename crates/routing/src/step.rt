@@ -17,6 +17,8 @@ use validator::answer::StepAnswer;
 use validator::answer::Validation;
 use validator::check::StandardValidator;
 ghost use mathlib.Core.Path.{_≡_};
+ghost use mathlib.Core.Bool.{true};
+ghost use mathlib.Core.List.{[]};
 ghost use Rattle.validator.specs.Questions.{firstNo};
 ghost use Rattle.validator.specs.Check.{scheduleMac};
 ghost use Rattle.interface_table.specs.Table.{stateOf};
@@ -25,6 +27,51 @@ ghost use Rattle.routing.specs.Egress.{egress};
 ghost use Rattle.routing.specs.Step.{keyMac, atIngress, atEgress, leavingQuestions, finished, leave, step};
 
 // ---- the halves
+
+// With MACs ignored no schedule is made: no MAC is worked out.
+fn ingress_unchecked(
+    ids: &[u16],
+    states: &[u8],
+    path: &mut [u8],
+    interface: u16,
+    time: u32,
+) -> IngressNextAction
+    ensures { λ r. ⌜ r ≡ ingress (now (ids .entry)) (now (states .entry)) (keyMac []) (atIngress interface time true)
+        (now (path .entry)) .answer ⌝ }
+    ensures { λ _. ⌜ now (path .exit) ≡ ingress (now (ids .entry)) (now (states .entry)) (keyMac []) (atIngress interface time true)
+        (now (path .entry)) .bytes ⌝ }
+{
+    let at = StandardValidator {
+        ingress: true,
+        interface,
+        time,
+        unchecked: true,
+    };
+    let table = [0; 1024];
+    ingress::ingress_with(ids, states, &table, [[0; 16]; 11], [0; 16], at, path)
+}
+
+fn egress_unchecked(
+    ids: &[u16],
+    states: &[u8],
+    path: &mut [u8],
+    interface: u16,
+    time: u32,
+) -> StepAnswer
+    ensures { λ r. ⌜ r ≡ egress (now (ids .entry)) (now (states .entry)) (keyMac []) (atEgress interface time true)
+        (now (path .entry)) .answer ⌝ }
+    ensures { λ _. ⌜ now (path .exit) ≡ egress (now (ids .entry)) (now (states .entry)) (keyMac []) (atEgress interface time true)
+        (now (path .entry)) .bytes ⌝ }
+{
+    let at = StandardValidator {
+        ingress: false,
+        interface,
+        time,
+        unchecked: true,
+    };
+    let table = [0; 1024];
+    egress::egress_with(ids, states, &table, [[0; 16]; 11], [0; 16], at, path)
+}
 
 pub fn standard_path_ingress(
     ids: &[u16],
@@ -40,6 +87,9 @@ pub fn standard_path_ingress(
     ensures { λ _. ⌜ now (path .exit) ≡ ingress (now (ids .entry)) (now (states .entry)) (keyMac (now («forwarding_key» .entry)))
         (atIngress «ingress_interface_id» time «ignore_macs») (now (path .entry)) .bytes ⌝ }
 {
+    if ignore_macs {
+        return ingress_unchecked(ids, states, path, ingress_interface_id, time);
+    }
     let table = aes::round_table();
     let round_keys = aes::expand_key(*forwarding_key);
     let k1 = cmac::subkey_with(&table, round_keys);
@@ -47,7 +97,7 @@ pub fn standard_path_ingress(
         ingress: true,
         interface: ingress_interface_id,
         time,
-        unchecked: ignore_macs,
+        unchecked: false,
     };
     ingress::ingress_with(ids, states, &table, round_keys, k1, at, path)
 }
@@ -66,6 +116,9 @@ pub fn standard_path_egress(
     ensures { λ _. ⌜ now (path .exit) ≡ egress (now (ids .entry)) (now (states .entry)) (keyMac (now («forwarding_key» .entry)))
         (atEgress «egress_if_id» time «ignore_macs») (now (path .entry)) .bytes ⌝ }
 {
+    if ignore_macs {
+        return egress_unchecked(ids, states, path, egress_if_id, time);
+    }
     let table = aes::round_table();
     let round_keys = aes::expand_key(*forwarding_key);
     let k1 = cmac::subkey_with(&table, round_keys);
@@ -73,7 +126,7 @@ pub fn standard_path_egress(
         ingress: false,
         interface: egress_if_id,
         time,
-        unchecked: ignore_macs,
+        unchecked: false,
     };
     egress::egress_with(ids, states, &table, round_keys, k1, at, path)
 }
@@ -180,6 +233,32 @@ pub fn handle_with(
     leave_with(ids, states, table, round_keys, k1, leaving, path)
 }
 
+fn handle_unchecked(
+    ids: &[u16],
+    states: &[u8],
+    path: &mut [u8],
+    interface: u16,
+    time: u32,
+) -> StepAnswer
+    ensures { λ r. ⌜ r ≡ step (now (ids .entry)) (now (states .entry)) (keyMac []) interface time true (now (path .entry)) .answer ⌝ }
+    ensures { λ _. ⌜ now (path .exit) ≡ step (now (ids .entry)) (now (states .entry)) (keyMac []) interface time true
+        (now (path .entry)) .bytes ⌝ }
+{
+    let table = [0; 1024];
+    let answer = handle_with(
+        ids,
+        states,
+        &table,
+        [[0; 16]; 11],
+        [0; 16],
+        path,
+        interface,
+        time,
+        true,
+    );
+    answer
+}
+
 pub fn handle_standard_path(
     ids: &[u16],
     states: &[u8],
@@ -194,6 +273,9 @@ pub fn handle_standard_path(
     ensures { λ _. ⌜ now (path .exit) ≡ step (now (ids .entry)) (now (states .entry)) (keyMac (now («forwarding_key» .entry)))
         «ingress_interface_id» time «ignore_macs» (now (path .entry)) .bytes ⌝ }
 {
+    if ignore_macs {
+        return handle_unchecked(ids, states, path, ingress_interface_id, time);
+    }
     let table = aes::round_table();
     let round_keys = aes::expand_key(*forwarding_key);
     let k1 = cmac::subkey_with(&table, round_keys);
@@ -206,6 +288,6 @@ pub fn handle_standard_path(
         path,
         ingress_interface_id,
         time,
-        ignore_macs,
+        false,
     )
 }
