@@ -8,7 +8,7 @@ import itertools
 import pathlib
 import sys
 
-EACH = 6
+EACH = 10
 FOLDER = pathlib.Path(__file__).parent
 CALLS = ["step", "ingress", "egress", "reverse", "expiration"]
 NUMBERS = {
