@@ -83,6 +83,12 @@ unsafe extern "C" {
         key: *const [u8; 16],
         mac: *mut [u8; 6],
     );
+    fn scion_aes_cmac(
+        key: *const [u8; 16],
+        message: *const u8,
+        message_length: usize,
+        mac: *mut [u8; 16],
+    );
 }
 
 /// The same call as [`Case::run`], on the archive.
@@ -159,6 +165,13 @@ pub fn hop_mac(
             &mut mac,
         )
     };
+    mac
+}
+
+pub fn aes_cmac(key: &[u8; 16], message: &[u8]) -> [u8; 16] {
+    let mut mac = [0; 16];
+    // SAFETY: pointers and lengths of what is borrowed for the call
+    unsafe { scion_aes_cmac(key, message.as_ptr(), message.len(), &mut mac) };
     mac
 }
 

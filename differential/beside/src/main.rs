@@ -2,11 +2,9 @@
 //!
 //! `beside [cases of each family] [seed] [part of lengths] [journeys]`. The third number n takes every n-th triple of lengths; 1 takes all.
 
-mod plans;
-
 use std::{process::ExitCode, time::Instant};
 
-use beside::archive;
+use beside::{archive, plans};
 use oracle::{Answer, Case, case, counts::Counts, inputs};
 
 fn main() -> ExitCode {

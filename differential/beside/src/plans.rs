@@ -6,25 +6,25 @@
 use oracle::{inputs::rng::Rng, number};
 use sciparse::dataplane_path::standard::mac::algo::{calculate_hop_mac, mac_beta_step};
 
-use beside::archive;
+use crate::archive;
 
 const RECORD: usize = 32;
 const PASSED: u16 = 120;
 const NOT_PASSED: u16 = 121;
 
 #[derive(Clone, Default)]
-struct Station {
+pub struct Station {
     arrival: u16,
     key: [u8; 16],
     ids: Vec<u16>,
     states: Vec<u8>,
 }
 
-struct Call {
-    path: Vec<u8>,
-    itinerary: Vec<u8>,
-    earliest: u32,
-    latest: u32,
+pub struct Call {
+    pub path: Vec<u8>,
+    pub itinerary: Vec<u8>,
+    pub earliest: u32,
+    pub latest: u32,
 }
 
 /// Counts of each verdict, for the report.
@@ -32,7 +32,8 @@ pub fn compare(seed: u64, journeys: u64, different: &mut u64) -> String {
     let mut rng = Rng::new(seed);
     let mut counts = std::collections::BTreeMap::new();
     for _ in 0..journeys {
-        let mut call = good_call(&mut rng);
+        let lengths = random_lengths(&mut rng);
+        let mut call = good_call(&mut rng, lengths, random_station);
         if !rng.once_in(3) {
             damage(&mut rng, &mut call);
         }
@@ -73,7 +74,7 @@ fn agrees(rng: &mut Rng, call: &Call, verdict: u16) -> bool {
 }
 
 /// The journey as 01 writes it out.
-fn arrives(path: &[u8], stations: &[Station], readings: &[u32]) -> bool {
+pub fn arrives(path: &[u8], stations: &[Station], readings: &[u32]) -> bool {
     let mut path = path.to_vec();
     for (place, (station, reading)) in stations.iter().zip(readings).enumerate() {
         let Station {
@@ -95,7 +96,7 @@ fn arrives(path: &[u8], stations: &[Station], readings: &[u32]) -> bool {
 }
 
 /// The stations of a sound itinerary.
-fn stations(itinerary: &[u8]) -> Vec<Station> {
+pub fn stations(itinerary: &[u8]) -> Vec<Station> {
     let number = |record: usize, at: usize| {
         let place = RECORD * record + at;
         u16::from_be_bytes([itinerary[place], itinerary[place + 1]])
@@ -131,13 +132,28 @@ struct Hop {
     station: usize,
 }
 
-/// One to three segments, mostly such that the path passes; times that just fit are frequent.
-fn good_call(rng: &mut Rng) -> Call {
-    let lengths: [usize; 3] = random_lengths(rng);
+/// A call that is passed.
+pub fn passed_call(rng: &mut Rng, lengths: [usize; 3]) -> Call {
+    let station = |rng: &mut Rng, place| Station {
+        states: vec![4 + 2; 4],
+        ..random_station(rng, place)
+    };
+    let call = good_call(rng, lengths, station);
+    let verdict = archive::check_journey(&call.path, &call.itinerary, call.earliest, call.latest);
+    assert_eq!(verdict, PASSED);
+    call
+}
+
+/// Mostly such that the path passes; times that just fit are frequent.
+fn good_call(
+    rng: &mut Rng,
+    lengths: [usize; 3],
+    station: impl Fn(&mut Rng, usize) -> Station,
+) -> Call {
     let hops: usize = lengths.iter().sum();
     let infos = lengths.iter().filter(|length| **length != 0).count();
     let plan: Vec<Station> = (0..hops - infos + 1)
-        .map(|place| random_station(rng, place))
+        .map(|place| station(rng, place))
         .collect();
     let earliest = 100_000 + rng.below(1000) as u32;
     let latest = earliest + rng.below(400) as u32;
@@ -176,6 +192,7 @@ fn good_call(rng: &mut Rng) -> Call {
     }
 }
 
+/// One to three segments.
 fn random_lengths(rng: &mut Rng) -> [usize; 3] {
     let mut lengths = [0; 3];
     let segments = 1 + rng.below(3);

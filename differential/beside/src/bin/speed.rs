@@ -1,14 +1,17 @@
 //! Times each call on the published Rust and on the archive, in one run and on the same inputs: paths with right MACs that the
 //! call lets go on, each call with a copy of its path. The least of many short batches, the two sides round about.
+//! The Rust has no journey check: beside it a journey is driven on the Rust twice, as the check's verdict asks, with every clock
+//! at the earliest reading and with every clock at the latest.
 //!
 //! The Rust's AES is the stand-in's, once with the processor's AES instructions and once without; the archive's is portable.
 
 use std::{hint::black_box, time::Instant};
 
-use beside::archive;
+use beside::{archive, plans};
+use cmac::{Cmac, Mac};
 use oracle::{
     Answer, Call, Case,
-    inputs::{self, arrivals},
+    inputs::{self, arrivals, rng::Rng},
     number,
 };
 use sciparse::dataplane_path::standard::mac::algo::calculate_hop_mac;
@@ -17,6 +20,14 @@ const CASES: u64 = 200_000;
 const KEPT: usize = 4096;
 const CALLS: usize = 16_384;
 const BATCHES: usize = 200;
+const JOURNEYS: [[usize; 3]; 6] = [
+    [2, 0, 0],
+    [2, 2, 0],
+    [4, 4, 0],
+    [6, 5, 5],
+    [16, 16, 0],
+    [22, 21, 21],
+];
 
 fn main() {
     for portable_only in [false, true] {
@@ -29,8 +40,24 @@ fn main() {
         println!("ns a call; the Rust with {kind}, Rattle with portable AES");
         println!("{:<24}{:>8}{:>8}{:>8}", "", "Rattle", "Rust", "ratio");
         let key = [7; 16];
+        for size in [16, 64, 1024] {
+            let message = vec![1; size];
+            report(
+                &format!("AES-CMAC, {size} bytes"),
+                CALLS,
+                &mut |_| {
+                    black_box(archive::aes_cmac(&key, black_box(&message)));
+                },
+                &mut |_| {
+                    let mut mac = Cmac::<aes::Aes128>::new(&key);
+                    mac.update(black_box(&message));
+                    black_box(mac.finalize().into_bytes());
+                },
+            );
+        }
         report(
             "hop MAC",
+            CALLS,
             &mut |turn| {
                 black_box(archive::hop_mac(turn as u16, 1000, 63, 1, 2, &key));
             },
@@ -50,6 +77,9 @@ fn main() {
                     &kept(call, answer, ignore_macs),
                 );
             }
+        }
+        for lengths in JOURNEYS {
+            journey(lengths);
         }
     }
     time("reverse", &kept(Call::Reverse, number::REVERSED, false));
@@ -84,14 +114,38 @@ fn time(name: &str, cases: &[Case]) {
             black_box(side(case, &mut path));
         }
     };
-    report(name, &mut run(archive::run), &mut run(Case::run));
+    report(name, CALLS, &mut run(archive::run), &mut run(Case::run));
 }
 
-fn report(name: &str, rattle: &mut dyn FnMut(usize), rust: &mut dyn FnMut(usize)) {
+fn journey(lengths: [usize; 3]) {
+    let call = plans::passed_call(&mut Rng::new(1), lengths);
+    let stations = plans::stations(&call.itinerary);
+    let hops: usize = lengths.iter().sum();
+    report(
+        &format!("journey, {hops} hops"),
+        CALLS / 256,
+        &mut |_| {
+            black_box(archive::check_journey(
+                &call.path,
+                &call.itinerary,
+                call.earliest,
+                call.latest,
+            ));
+        },
+        &mut |_| {
+            for reading in [call.earliest, call.latest] {
+                let readings = vec![reading; stations.len()];
+                assert!(plans::arrives(&call.path, &stations, &readings));
+            }
+        },
+    );
+}
+
+fn report(name: &str, calls: usize, rattle: &mut dyn FnMut(usize), rust: &mut dyn FnMut(usize)) {
     let (mut least_rattle, mut least_rust) = (f64::INFINITY, f64::INFINITY);
     for _ in 0..BATCHES {
-        least_rattle = least_rattle.min(batch(rattle));
-        least_rust = least_rust.min(batch(rust));
+        least_rattle = least_rattle.min(batch(calls, rattle));
+        least_rust = least_rust.min(batch(calls, rust));
     }
     println!(
         "{name:<24}{least_rattle:>8.0}{least_rust:>8.0}{:>8.2}",
@@ -99,10 +153,10 @@ fn report(name: &str, rattle: &mut dyn FnMut(usize), rust: &mut dyn FnMut(usize)
     );
 }
 
-fn batch(call: &mut dyn FnMut(usize)) -> f64 {
+fn batch(calls: usize, call: &mut dyn FnMut(usize)) -> f64 {
     let start = Instant::now();
-    for turn in 0..CALLS {
+    for turn in 0..calls {
         call(turn);
     }
-    start.elapsed().as_nanos() as f64 / CALLS as f64
+    start.elapsed().as_nanos() as f64 / calls as f64
 }
