@@ -2,7 +2,7 @@
 -- Assumes nothing.
 use Prim.Native.Nat.{ℕ}
 use mathlib.Core.List.{List, [], _∷_}
-use lib.ListN.{length}
+use lib.ListN.{length, getD}
 use Rattle.standard_path.specs.declared.segments.PathExpiration.{PathExpiration}
 use Rattle.standard_path.specs.declared.segments.PathExpiration.the-variants as expiring
 use Rattle.standard_path.specs.declared.view.SegmentIndex.{SegmentIndex}
@@ -11,7 +11,7 @@ use Rattle.reverse.specs.Reverse.{reverseNumber}
 use Rattle.reverse.specs.declared.Reversal.{Reversal}
 use Rattle.reverse.specs.declared.Reversal.the-variants.{Reversed, Failed}
 use Rattle.validator.specs.Answer.{refusalNumber, refusalValues, fourValues, flag}
-use Rattle.validator.specs.Scmp.{toScmpError}
+use Rattle.validator.specs.Scmp.{toScmpError, scmpValues}
 use Rattle.validator.specs.declared.answer.StandardRoutingError.{StandardRoutingError}
 use Rattle.validator.specs.declared.answer.LocalAsRoutingAction.{LocalAsRoutingAction}
 use Rattle.validator.specs.declared.answer.LocalAsRoutingAction.the-variants.{IngressSCMPHandleRequest, EgressSCMPHandleRequest, ForwardLocal}
@@ -22,20 +22,23 @@ use Rattle.validator.specs.declared.answer.IngressNextAction.the-variants as in
 use Rattle.validator.specs.declared.answer.StepAnswer.{StepAnswer}
 use Rattle.validator.specs.declared.answer.StepAnswer.the-variants.{Action, Refused}
 use Rattle.validator.specs.declared.scmp.ScmpError.{ScmpError}
-use Rattle.validator.specs.declared.scmp.ScmpError.the-variants.{NoMessage, ParameterProblem, ExternalInterfaceDown}
+use Rattle.validator.specs.declared.scmp.ScmpError.the-variants.{NoMessage}
 use Rattle.journey.specs.Verdict.{journeyNumber}
 use Rattle.journey.specs.declared.answer.Verdict.{Verdict}
 use Rattle.journey.specs.declared.answer.Verdict.the-variants as verdict
 use Rattle.exports.specs.declared.reply.Reply.{Reply}
 
--- with an SCMP error: type, code, and pointer or interface; type 0 for none
+-- with the SCMP error's type, code, and pointer or interface; 0 for each where there is none
 abbrev pub reply : ℕ → List ℕ → ScmpError → Reply
-reply number values NoMessage =
-    record { number = number; count = length values; values = fourValues values; kind = 0; code = 0; pointer = 0 }
-reply number values (ParameterProblem code pointer) =
-    record { number = number; count = length values; values = fourValues values; kind = 4; code = code; pointer = pointer }
-reply number values (ExternalInterfaceDown interface) =
-    record { number = number; count = length values; values = fourValues values; kind = 5; code = 0; pointer = interface }
+reply number values error =
+    record {
+      number = number;
+      count = length values;
+      values = fourValues values;
+      kind = getD (scmpValues error) 0 0;
+      code = getD (scmpValues error) 1 0;
+      pointer = getD (scmpValues error) 2 0;
+    }
 
 unfoldable pub refusalReply : StandardRoutingError → Reply
 refusalReply why = reply (refusalNumber why) (refusalValues why) (toScmpError why)
