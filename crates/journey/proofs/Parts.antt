@@ -164,7 +164,7 @@ module _ (stations : List Station) (earliest latest : ℕ) (path : List ℕ) whe
 
     begun : (fits && all (infos path) (segmentPasses stations earliest latest path)) ≡ true
     unfolding passes
-    begun = first-of _ (all (infos path - 1) (jointPasses stations earliest latest path)) e
+    begun = first-of _ (all (infos path - 1) (jointPasses stations path)) e
 
     pub passes-shape : Shape path
     passes-shape = fit-shape path (first-of fits _ begun)
@@ -172,10 +172,10 @@ module _ (stations : List Station) (earliest latest : ℕ) (path : List ℕ) whe
     segment-passes : (t : ℕ) → t < infos path → segmentPasses stations earliest latest path t ≡ true
     segment-passes t h = all-at (infos path) (segmentPasses stations earliest latest path) (second-of fits _ begun) t h
 
-    joint-passes : (t : ℕ) → t + 1 < infos path → jointPasses stations earliest latest path t ≡ true
+    joint-passes : (t : ℕ) → t + 1 < infos path → jointPasses stations path t ≡ true
     unfolding passes
     joint-passes t h =
-        all-at (infos path - 1) (jointPasses stations earliest latest path)
+        all-at (infos path - 1) (jointPasses stations path)
         (second-of (fits && all (infos path) (segmentPasses stations earliest latest path)) _ e) t (omega arith)
 
     early : (t : ℕ) → t < infos path → timestamp (infoField path t) ≤ earliest
@@ -340,7 +340,7 @@ module _ (stations : List Station) (earliest latest : ℕ) (path : List ℕ) whe
         (le-leb _ _ (le-trans (told early at-early t 0 h some .begun) (low (stationIndex path t 0) (index-among shape counted t 0 h some))))
         (all-of (countOf path t) _ (λ m w. hop-passes t m h w))
 
-    joint-good : (t : ℕ) → t + 1 < infos path → jointPasses stations earliest latest path t ≡ true
+    joint-good : (t : ℕ) → t + 1 < infos path → jointPasses stations path t ≡ true
     unfolding jointPasses jointFits yes
     joint-good t h =
         let long = all-long shape t (omega arith) in

@@ -96,16 +96,18 @@ noStation = record { arrival = 0; key = []; ids = []; states = [] }
 abbrev pub stationOf : List Station → List ℕ → ℕ → ℕ → Station
 stationOf stations path s m = getD stations (startOf path s - s + m) noStation
 
-module _ (stations : List Station) (earliest latest : ℕ) (path : List ℕ) where
-  unfoldable pub segmentPasses : ℕ → Bool
-  segmentPasses s = segmentFits (stationOf stations path s) earliest latest (infoField path s) (hopOf path s) (countOf path s)
+unfoldable pub segmentPasses : List Station → ℕ → ℕ → List ℕ → ℕ → Bool
+segmentPasses stations earliest latest path s =
+    segmentFits (stationOf stations path s) earliest latest (infoField path s) (hopOf path s) (countOf path s)
 
-  -- from segment s to the next
-  unfoldable pub jointPasses : ℕ → Bool
-  jointPasses s =
-      jointFits (stationOf stations path (s + 1) 0) (infoField path s) (hopOf path s (countOf path s - 1))
-      (infoField path (s + 1)) (hopOf path (s + 1) 0)
+-- from segment s to the next: no clock is read there
+unfoldable pub jointPasses : List Station → List ℕ → ℕ → Bool
+jointPasses stations path s =
+    jointFits (stationOf stations path (s + 1) 0) (infoField path s) (hopOf path s (countOf path s - 1))
+    (infoField path (s + 1)) (hopOf path (s + 1) 0)
 
-  unfoldable pub passes : Bool
-  passes =
-      lengthsFit (seg0Len path) (seg1Len path) (seg2Len path) && all (infos path) segmentPasses && all (infos path - 1) jointPasses
+unfoldable pub passes : List Station → ℕ → ℕ → List ℕ → Bool
+passes stations earliest latest path =
+    lengthsFit (seg0Len path) (seg1Len path) (seg2Len path)
+    && all (infos path) (segmentPasses stations earliest latest path)
+    && all (infos path - 1) (jointPasses stations path)

@@ -4,9 +4,8 @@ use Prim.Native.Nat.{ℕ, _+_, _-_}
 use mathlib.Core.Bool.{Bool, true, not, _&&_, cond}
 use mathlib.Core.List.{List, [], _∷_}
 use lib.Dec.{eqb, leb}
-use lib.ListN.{length}
 use Rattle.standard_path.specs.Fields.{currInf, currHf, consIngressAlert, consEgressAlert}
-use Rattle.standard_path.specs.Header.{infos, hops, headerSize, hopField}
+use Rattle.standard_path.specs.Header.{infos, hops, hopField, metaThere, fieldsThere, hopsFew}
 use Rattle.itinerary.specs.Layout.{Layout}
 use Rattle.itinerary.specs.Itinerary.{stations, itineraryFits}
 use Rattle.journey.specs.declared.answer.JourneyError.{JourneyError}
@@ -37,9 +36,9 @@ Question = Bool × JourneyError
 -- 2, 3, 4, then 23, 24, 25
 abbrev pub questions : Layout → List ℕ → ℕ → ℕ → List ℕ → List Question
 questions layout itinerary earliest latest path =
-    (leb 4 (length path), MetaTooShort)
-    ∷ (leb (headerSize path) (length path), DataTooShort)
-    ∷ (leb (hops path) 64, TooManyHops)
+    (metaThere path, MetaTooShort)
+    ∷ (fieldsThere path, DataTooShort)
+    ∷ (hopsFew path, TooManyHops)
     ∷ (itineraryFits layout itinerary (stationCount path) && leb earliest latest, UnfitItinerary)
     ∷ (eqb (currHf path) 0 && eqb (currInf path) 0, NotAtStart)
     ∷ (quiet path, AlertSet)

@@ -99,11 +99,11 @@ module _ (layout : Layout) (itinerary : List ℕ) where
         ap (λ (b : Bool). leb (timestamp (infoField path s)) earliest && b)
         (all-same (countOf path s) _ _ (λ m w. rw (e, ← station-read s m h w)))
 
-    pub joint-read : (earliest latest s : ℕ) → s + 1 < infos path → {station : ℕ}
+    pub joint-read : (s : ℕ) → s + 1 < infos path → {station : ℕ}
         → station ≡ getD records (startOf path (s + 1) - (s + 1)) 0
         → jointFits (stationAt layout itinerary station) (infoField path s) (hopOf path s (countOf path s - 1))
         (infoField path (s + 1)) (hopOf path (s + 1) 0)
-        ≡ jointPasses (stations layout itinerary) earliest latest path s
+        ≡ jointPasses (stations layout itinerary) path s
     unfolding jointPasses recordAfter
-    joint-read earliest latest s h {station} e =
+    joint-read s h {station} e =
         rw (e, station-read (s + 1) 0 h (omega (arith, some-hops (s + 1) h)))

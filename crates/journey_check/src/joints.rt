@@ -46,11 +46,11 @@ fn joint_fits(
         & hops::arrives_by(itinerary, station, next_info, next_hop)
 }
 
-// From a segment to the next. No clock is read there.
+// From a segment to the next.
 fn joint_passes(itinerary: &[u8], path: &[u8], segment: u8) -> bool
     requires matched { ⌜ Matched narrow (now itinerary) (now path) ⌝ }
     requires listed { ⌜ segment + 1 < infos (now path) ⌝ }
-    ensures { λ r. ⌜ r ≡ jointPasses (stations narrow (now (itinerary .entry))) 0 0 (now (path .entry)) segment ⌝ }
+    ensures { λ r. ⌜ r ≡ jointPasses (stations narrow (now (itinerary .entry))) (now (path .entry)) segment ⌝ }
 {
     let next = segment + 1;
     joint_fits(
@@ -66,7 +66,7 @@ fn joint_passes(itinerary: &[u8], path: &[u8], segment: u8) -> bool
 pub fn joints_pass(itinerary: &[u8], path: &[u8]) -> bool
     requires { ⌜ Matched narrow (now itinerary) (now path) ⌝ }
     ensures { λ r. ⌜ r ≡ all (infos (now (path .entry)) - 1)
-        (jointPasses (stations narrow (now (itinerary .entry))) 0 0 (now (path .entry))) ⌝ }
+        (jointPasses (stations narrow (now (itinerary .entry))) (now (path .entry))) ⌝ }
 {
     let infos = view::info_field_count(path);
     let mut segment: u8 = 0;

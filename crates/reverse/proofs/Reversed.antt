@@ -5,10 +5,10 @@ use mathlib.Core.Bool.{Bool, true, false}
 use mathlib.Core.List.{List, [], _∷_}
 use Prim.Native.Nat.{ℕ, zero, suc, _+_, _-_, _*_, _≤_, _<_}
 use native.Mathlib.Omega.{arith}
-use lib.Dec.{ltb}
+use lib.Dec.{leb}
+use borrow.Author.Tests.{leb-true}
 use lib.ListN.{length, getD, take, drop, length-set}
 use lib.Seq.{take-add, drop-at, length-take-le, drop-set-lt, getD-take}
-use borrow.Author.Tests.{ltb-false}
 use Rattle.standard_path.specs.Layout.{infoOffset, hopOffset}
 use Rattle.standard_path.specs.Fields.{currInf, currHf, seg0Len, seg1Len, seg2Len, setCurrInf, setCurrHf}
 use Rattle.standard_path.specs.Header.{infos, hops, headerSize, infoField, hopField, headerCheck}
@@ -215,12 +215,12 @@ module _ (path : List ℕ) where
   module _ (bytes : (i : ℕ) → getD path i 0 < 256) where
     swapped-header : headerCheck (swapLengths path) ≡ headerCheck path
     unfolding headerCheck
-    swapped-header = go (ltb (length path) 4) refl
+    swapped-header = go (leb 4 (length path)) refl
       where
-        go : (short : Bool) → ltb (length path) 4 ≡ short → headerCheck (swapLengths path) ≡ headerCheck path
-        go true e = rw (length-swap-lengths path, e)
-        go false e =
-            let meta : 4 ≤ length path = ltb-false _ _ e in
+        go : (there : Bool) → leb 4 (length path) ≡ there → headerCheck (swapLengths path) ≡ headerCheck path
+        go false e = rw (length-swap-lengths path, e)
+        go true e =
+            let meta : 4 ≤ length path = leb-true _ _ e in
             same-header (swapLengths path) path (length-swap-lengths path) (swapped-infos path bytes meta) (swapped-hops path bytes meta)
 
     -- a header that is complete stays so

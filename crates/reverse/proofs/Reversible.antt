@@ -5,11 +5,11 @@ use mathlib.Core.Bool.{Bool, true, false}
 use mathlib.Core.List.{List}
 use Prim.Native.Nat.{ℕ, _≤_, _<_}
 use native.Mathlib.Omega.{arith}
-use lib.Dec.{eqb, leb, ltb}
+use lib.Dec.{eqb, leb}
 use lib.ListN.{length}
-use borrow.Author.Tests.{ltb-false, leb-false, eqb-false, eq-eqb, ne-eqb, le-leb, lt-leb}
+use borrow.Author.Tests.{leb-true, leb-false, eqb-false, eq-eqb, ne-eqb, le-leb, lt-leb}
 use Rattle.standard_path.specs.Fields.{currInf, currHf, seg0Len}
-use Rattle.standard_path.specs.Header.{hops, headerSize, headerCheck}
+use Rattle.standard_path.specs.Header.{hops, headerSize, metaThere, fieldsThere, hopsFew, headerCheck}
 use Rattle.reverse.specs.Reverse.{usedSegments, reverseAsked, reverseAnswer}
 use Rattle.standard_path.specs.declared.view.HeaderCheck.{HeaderCheck}
 use Rattle.standard_path.specs.declared.view.HeaderCheck.the-variants.{Complete, MetaTooShort, DataTooShort, TooManyHops}
@@ -32,14 +32,13 @@ pub record Reversible (path : List ℕ) : Type 0 where
 module _ (path : List ℕ) where
   pub whole : headerCheck path ≡ Complete → Whole path
   unfolding headerCheck
-  whole e = go (ltb (length path) 4) (ltb (length path) (headerSize path)) (ltb 64 (hops path)) refl refl refl
+  whole e = go (metaThere path) (fieldsThere path) (hopsFew path) refl refl refl
     where
-      go : (short cut many : Bool) → ltb (length path) 4 ≡ short → ltb (length path) (headerSize path) ≡ cut
-          → ltb 64 (hops path) ≡ many → Whole path
-      go true cut many p q r = let z : _≡_ {A = ℕ} 0 1 = cc in absurd (omega arith)
-      go false true many p q r = let z : _≡_ {A = ℕ} 0 1 = cc in absurd (omega arith)
-      go false false true p q r = let z : _≡_ {A = ℕ} 0 1 = cc in absurd (omega arith)
-      go false false false p q r = record { meta = ltb-false _ _ p; fits = ltb-false _ _ q; few = ltb-false _ _ r }
+      go : (meta fields few : Bool) → metaThere path ≡ meta → fieldsThere path ≡ fields → hopsFew path ≡ few → Whole path
+      go false fields few p q r = let z : _≡_ {A = ℕ} 0 1 = cc in absurd (omega arith)
+      go true false few p q r = let z : _≡_ {A = ℕ} 0 1 = cc in absurd (omega arith)
+      go true true false p q r = let z : _≡_ {A = ℕ} 0 1 = cc in absurd (omega arith)
+      go true true true p q r = record { meta = leb-true _ _ p; fits = leb-true _ _ q; few = leb-true _ _ r }
 
   pub no-segments : seg0Len path ≡ 0 → Failed NoSegments ≡ reverseAsked path
   unfolding reverseAsked

@@ -1,15 +1,13 @@
 -- What the header's reader and the segment index say, in the words of the questions.
 -- Assumes nothing.
 use mathlib.Core.Path.{_≡_, refl}
-use mathlib.Core.Bool.{Bool, true, false, not, cond}
+use mathlib.Core.Bool.{Bool, true, false, cond}
 use mathlib.Core.List.{List}
 use Prim.Native.Nat.{ℕ, _+_}
 use native.Mathlib.Omega.{arith}
-use borrow.Author.Tests.{lt-leb, le-leb, ltb-true, ltb-false}
-use lib.Dec.{eqb, ltb, leb}
-use lib.ListN.{length}
+use lib.Dec.{eqb, ltb}
 use Rattle.standard_path.specs.Fields.{seg0Len, seg1Len, seg2Len}
-use Rattle.standard_path.specs.Header.{hops, headerSize, headerCheck, segmentOf, segmentStart, segmentEnd, segmentAmong, segmentIndex}
+use Rattle.standard_path.specs.Header.{hops, metaThere, fieldsThere, hopsFew, headerCheck, segmentOf, segmentStart, segmentEnd, segmentAmong, segmentIndex}
 use Rattle.standard_path.specs.declared.view.HeaderCheck.{HeaderCheck}
 use Rattle.standard_path.specs.declared.view.HeaderCheck.the-variants as header
 use Rattle.standard_path.specs.declared.view.SegmentIndex.the-variants.{At, OutOfBounds}
@@ -21,13 +19,6 @@ use Rattle.validator.specs.declared.answer.StandardRoutingError.{StandardRoutin
 use Rattle.routing.specs.declared.place.Located.the-variants.{Here, Nowhere}
 use Rattle.routing.specs.Place.{headerQuestions, located}
 
-pub leb-is : (low high : ℕ) → leb low high ≡ not (ltb high low)
-leb-is low high = go (ltb high low) refl
-  where
-    go : (less : Bool) → ltb high low ≡ less → leb low high ≡ not less
-    go true e = lt-leb low high (ltb-true high low e)
-    go false e = le-leb low high (ltb-false high low e)
-
 abbrev pub asValidation : HeaderCheck → Validation
 asValidation header.Complete = Valid
 asValidation header.MetaTooShort = Invalid MetaTooShort
@@ -36,17 +27,15 @@ asValidation header.TooManyHops = Invalid TooManyHops
 
 pub header-law : (path : List ℕ) → firstNo (headerQuestions path) ≡ asValidation (headerCheck path)
 unfolding firstNo headerCheck
-header-law path =
-    rw (leb-is 4 (length path), leb-is (headerSize path) (length path), leb-is (hops path) 64)
-    (go (ltb (length path) 4) (ltb (length path) (headerSize path)) (ltb 64 (hops path)))
+header-law path = go (metaThere path) (fieldsThere path) (hopsFew path)
   where
-    go : (short cut many : Bool)
-        → cond (not short) (cond (not cut) (cond (not many) Valid (Invalid TooManyHops)) (Invalid DataTooShort)) (Invalid MetaTooShort)
-        ≡ asValidation (cond short header.MetaTooShort (cond cut header.DataTooShort (cond many header.TooManyHops header.Complete)))
-    go true cut many = refl
-    go false true many = refl
-    go false false true = refl
-    go false false false = refl
+    go : (meta fields few : Bool)
+        → cond meta (cond fields (cond few Valid (Invalid TooManyHops)) (Invalid DataTooShort)) (Invalid MetaTooShort)
+        ≡ asValidation (cond meta (cond fields (cond few header.Complete header.TooManyHops) header.DataTooShort) header.MetaTooShort)
+    go false fields few = refl
+    go true false few = refl
+    go true true false = refl
+    go true true true = refl
 
 -- a hop that lies in a segment
 pub record Lies (path : List ℕ) (h index : ℕ) (start end : Bool) : Type 0 where

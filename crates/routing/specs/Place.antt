@@ -4,9 +4,8 @@ use Prim.Native.Nat.{ℕ, _+_}
 use mathlib.Core.Bool.{Bool, not, _&&_, _||_}
 use mathlib.Core.List.{List, [], _∷_}
 use lib.Dec.{eqb, ltb, leb}
-use lib.ListN.{length}
 use Rattle.standard_path.specs.Fields.{currInf, currHf, seg0Len, seg1Len, seg2Len}
-use Rattle.standard_path.specs.Header.{infos, hops, headerSize, segmentOf, segmentStart, segmentEnd}
+use Rattle.standard_path.specs.Header.{infos, hops, metaThere, fieldsThere, hopsFew, segmentOf, segmentStart, segmentEnd}
 use Rattle.interface_table.specs.Table.{tableSound}
 use Rattle.validator.specs.Questions.{Questions}
 use Rattle.validator.specs.declared.answer.Validation.{Validation}
@@ -19,10 +18,7 @@ use Rattle.validator.specs.declared.answer.StandardRoutingError.the-variants.{U
 -- 2, 3, 4
 abbrev pub headerQuestions : List ℕ → Questions
 headerQuestions path =
-    (leb 4 (length path), MetaTooShort)
-    ∷ (leb (headerSize path) (length path), DataTooShort)
-    ∷ (leb (hops path) 64, TooManyHops)
-    ∷ []
+    (metaThere path, MetaTooShort) ∷ (fieldsThere path, DataTooShort) ∷ (hopsFew path, TooManyHops) ∷ []
 
 -- 1, then these: 'Before everything'
 abbrev pub before : List ℕ → List ℕ → List ℕ → Questions

@@ -1,9 +1,9 @@
 -- The header of a path: its counts, its parts, questions 2 to 4, and the segment that a hop lies in.
 -- Assumes nothing.
 use Prim.Native.Nat.{ℕ, _+_}
-use mathlib.Core.Bool.{cond}
+use mathlib.Core.Bool.{Bool, cond}
 use mathlib.Core.List.{List}
-use lib.Dec.{eqb, ltb}
+use lib.Dec.{eqb, ltb, leb}
 use lib.ListN.{length, take, drop}
 use Rattle.standard_path.specs.Layout.{infoCount, hopCount, infoOffset, hopOffset}
 use Rattle.standard_path.specs.Fields.{seg0Len, seg1Len, seg2Len}
@@ -29,13 +29,19 @@ infoField path i = take 8 (drop (infoOffset i) path)
 unfoldable pub hopField : List ℕ → ℕ → List ℕ
 hopField path i = take 12 (drop (hopOffset (infos path) i) path)
 
--- 01, 'Before everything', questions 2, 3 and 4
+-- 01, 'Before everything', questions 2, 3 and 4: 'At least 4 bytes?', 'At least 4 + 8 × infos + 12 × hops?', 'At most 64 hops?'
+abbrev pub metaThere : List ℕ → Bool
+metaThere path = leb 4 (length path)
+
+abbrev pub fieldsThere : List ℕ → Bool
+fieldsThere path = leb (headerSize path) (length path)
+
+abbrev pub hopsFew : List ℕ → Bool
+hopsFew path = leb (hops path) 64
+
 unfoldable pub headerCheck : List ℕ → HeaderCheck
 headerCheck path =
-    cond (ltb (length path) 4) MetaTooShort
-    (cond (ltb (length path) (headerSize path)) DataTooShort
-    (cond (ltb 64 (hops path)) TooManyHops
-    Complete))
+    cond (metaThere path) (cond (fieldsThere path) (cond (hopsFew path) Complete TooManyHops) DataTooShort) MetaTooShort
 
 -- ---- a segment is known by its place among the three lengths, empty ones counted
 

@@ -37,7 +37,7 @@ returns c =
       hop-count .ensures .0,
       info-field2 .ensures,
       c .before .hop-of2 .ensures,
-    ) at (c .joint-fits .ensures) ∙ joint-read narrow _ _ (pre .0) 0 0 _ (pre .1) (first-station .ensures)
+    ) at (c .joint-fits .ensures) ∙ joint-read narrow _ _ (pre .0) _ (pre .1) (first-station .ensures)
 
 pub joint-passes-spec : {M : Type 1} → statement M
 joint-passes-spec =

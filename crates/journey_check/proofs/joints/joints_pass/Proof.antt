@@ -10,7 +10,7 @@ use Rattle.journey_check.proofs.joints.joints_pass.Statement.{statement
 use Rattle.journey_check.proofs.joints.joints_pass.Tie as tie
 
 abbrev Inv-loop : tie.InvT-loop
-Inv-loop itinerary path infos segment₀ segment = Asked (jointPasses (stations narrow itinerary) 0 0 path) (infos - 1) segment
+Inv-loop itinerary path infos segment₀ segment = Asked (jointPasses (stations narrow itinerary) path) (infos - 1) segment
 
 abbrev μ-loop : tie.MeasureT-loop
 μ-loop itinerary path infos segment₀ segment = infos - segment

@@ -1,7 +1,7 @@
 use borrow.Author.Needs.{needs}
 use mathlib.Core.Path.{sym, _∙_}
 use borrow.Author.Tests.{not-true, not-false}
-use Rattle.journey.specs.Check.{jointPasses, passes}
+use Rattle.journey.specs.Check.{passes}
 use Rattle.journey_check.proofs.questions.passes_with.Statement.{statement}
 use Rattle.journey_check.proofs.questions.passes_with.Tie as tie
 
@@ -23,7 +23,7 @@ joints-pass-requires c κs =
     record { fit = fit; counted = pre .1 }
 
 returns-2 : tie.Need-returns-2
-unfolding passes jointPasses
+unfolding passes
 returns-2 c =
     let lengths-fit = c .before .before .before .lengths-fit in
     let if1 = c .before .before .if1 in

@@ -1,6 +1,6 @@
 use borrow.Author.Needs.{needs}
 use mathlib.Core.Path.{ap₂, _∙_}
-use borrow.Author.Tests.{lt-ltb, le-ltb}
+use borrow.Author.Tests.{lt-leb, le-leb}
 use Rattle.standard_path.specs.Layout.{hopOffset}
 use Rattle.standard_path.specs.Header.{headerSize, headerCheck}
 use Rattle.standard_path.proofs.view.check_header.Statement.{statement}
@@ -8,25 +8,25 @@ use Rattle.standard_path.proofs.view.check_header.Tie as tie
 
 returns : tie.Need-returns
 unfolding headerCheck
-returns c = simp (lt-ltb _ _ (c .if1 .taken))
+returns c = simp (lt-leb _ _ (c .if1 .taken))
 
 returns-2 : tie.Need-returns-2
 unfolding headerCheck headerSize
 returns-2 c =
     let e = c .before .offset .ensures ∙ ap₂ hopOffset (c .before .before .info-field-count .ensures) (c .before .before .before .hop-field-count .ensures) in
-    simp (le-ltb _ _ (c .before .before .before .before .if1 .left), lt-ltb _ _ (rw e at (c .if2 .taken)))
+    simp (le-leb _ _ (c .before .before .before .before .if1 .left), lt-leb _ _ (rw e at (c .if2 .taken)))
 
 returns-3 : tie.Need-returns-3
 unfolding headerCheck headerSize
 returns-3 c =
     let e = c .before .before .offset .ensures ∙ ap₂ hopOffset (c .before .before .before .info-field-count .ensures) (c .before .before .before .before .hop-field-count .ensures) in
-    simp (le-ltb _ _ (c .before .before .before .before .before .if1 .left), le-ltb _ _ (rw e at (c .before .if2 .left)), lt-ltb _ _ (rw (c .before .before .before .before .hop-field-count .ensures) at (c .if3 .taken)))
+    simp (le-leb _ _ (c .before .before .before .before .before .if1 .left), le-leb _ _ (rw e at (c .before .if2 .left)), lt-leb _ _ (rw (c .before .before .before .before .hop-field-count .ensures) at (c .if3 .taken)))
 
 returns-4 : tie.Need-returns-4
 unfolding headerCheck headerSize
 returns-4 c =
     let e = c .before .before .offset .ensures ∙ ap₂ hopOffset (c .before .before .before .info-field-count .ensures) (c .before .before .before .before .hop-field-count .ensures) in
-    simp (le-ltb _ _ (c .before .before .before .before .before .if1 .left), le-ltb _ _ (rw e at (c .before .if2 .left)), le-ltb _ _ (rw (c .before .before .before .before .hop-field-count .ensures) at (c .if3 .left)))
+    simp (le-leb _ _ (c .before .before .before .before .before .if1 .left), le-leb _ _ (rw e at (c .before .if2 .left)), le-leb _ _ (rw (c .before .before .before .before .hop-field-count .ensures) at (c .if3 .left)))
 
 pub check-header-spec : {M : Type 1} → statement M
 check-header-spec =
