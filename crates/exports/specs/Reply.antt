@@ -3,8 +3,9 @@
 use Prim.Native.Nat.{ℕ}
 use mathlib.Core.List.{List, [], _∷_}
 use lib.ListN.{length, getD}
-use Rattle.standard_path.specs.declared.segments.PathExpiration.{PathExpiration}
-use Rattle.standard_path.specs.declared.segments.PathExpiration.the-variants as expiring
+use Rattle.segments.specs.Segments.{expirationNumber}
+use Rattle.segments.specs.declared.PathExpiration.{PathExpiration}
+use Rattle.segments.specs.declared.PathExpiration.the-variants as expiring
 use Rattle.standard_path.specs.declared.view.SegmentIndex.{SegmentIndex}
 use Rattle.standard_path.specs.declared.view.SegmentIndex.the-variants as segment
 use Rattle.reverse.specs.Reverse.{reverseNumber}
@@ -71,14 +72,14 @@ reversalReply (Failed error) = reply (reverseNumber error) [] NoMessage
 
 unfoldable pub expirationReply : PathExpiration → Reply
 expirationReply (expiring.At time) = reply 111 (time ∷ []) NoMessage
-expirationReply expiring.MetaTooShort = reply 2 [] NoMessage
-expirationReply expiring.DataTooShort = reply 3 [] NoMessage
-expirationReply expiring.TooManyHops = reply 4 [] NoMessage
+expirationReply expiring.MetaTooShort = reply (expirationNumber expiring.MetaTooShort) [] NoMessage
+expirationReply expiring.DataTooShort = reply (expirationNumber expiring.DataTooShort) [] NoMessage
+expirationReply expiring.TooManyHops = reply (expirationNumber expiring.TooManyHops) [] NoMessage
 
--- the segment, and whether the hop is its first, and its last
-unfoldable pub segmentReply : SegmentIndex → Reply
-segmentReply (segment.At index start end) = reply 112 (index ∷ flag start ∷ flag end ∷ []) NoMessage
-segmentReply segment.OutOfBounds = reply 5 [] NoMessage
+-- of the hop with this index: its segment, and whether it is the first there, and the last
+unfoldable pub segmentReply : ℕ → SegmentIndex → Reply
+segmentReply hop (segment.At index start end) = reply 112 (index ∷ flag start ∷ flag end ∷ []) NoMessage
+segmentReply hop segment.OutOfBounds = reply 5 (hop ∷ []) NoMessage
 
 unfoldable pub journeyReply : Verdict → Reply
 journeyReply verdict.Passed = reply 120 [] NoMessage

@@ -6,13 +6,12 @@ use aes_cmac::cmac;
 use journey_check::questions;
 use routing::step;
 use standard_path::mac;
-use standard_path::segments;
 use standard_path::view;
 ghost use mathlib.Core.Path.{_≡_};
 ghost use Rattle.aes_cmac.specs.Cmac.{aesCmac};
 ghost use Rattle.standard_path.specs.Mac.{hopMac};
 ghost use Rattle.standard_path.specs.Header.{segmentIndex};
-ghost use Rattle.standard_path.specs.Segments.{expiration};
+ghost use Rattle.segments.specs.Segments.{expiration};
 ghost use Rattle.reverse.specs.Reverse.{reverseAnswer, reverseBytes};
 ghost use Rattle.routing.specs.Ingress.{ingress};
 ghost use Rattle.routing.specs.Egress.{egress};
@@ -124,9 +123,9 @@ pub extern "C" fn scion_expiration(path: &[u8]) -> Reply
 
 #[no_mangle]
 pub extern "C" fn scion_calculate_segment_index(path: &[u8], hop_idx: u8) -> Reply
-    ensures { λ r. ⌜ r ≡ segmentReply (segmentIndex (now (path .entry)) «hop_idx») ⌝ }
+    ensures { λ r. ⌜ r ≡ segmentReply «hop_idx» (segmentIndex (now (path .entry)) «hop_idx») ⌝ }
 {
-    reply::segment_reply(view::calculate_segment_index(path, hop_idx))
+    reply::segment_reply(hop_idx, view::calculate_segment_index(path, hop_idx))
 }
 
 // ---- the journey check

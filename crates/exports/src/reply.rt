@@ -2,7 +2,7 @@
 use journey::answer;
 use journey::answer::Verdict;
 use reverse::Reversal;
-use standard_path::segments::PathExpiration;
+use segments::PathExpiration;
 use standard_path::view::SegmentIndex;
 use validator::answer::AsRoutingAction;
 use validator::answer::IngressNextAction;
@@ -156,14 +156,14 @@ fn flag(is_set: bool) -> u64
     if is_set { 1 } else { 0 }
 }
 
-pub fn segment_reply(answer: SegmentIndex) -> Reply
-    ensures { λ r. ⌜ r ≡ segmentReply answer ⌝ }
+pub fn segment_reply(hop_idx: u8, answer: SegmentIndex) -> Reply
+    ensures { λ r. ⌜ r ≡ segmentReply «hop_idx» answer ⌝ }
 {
     match answer {
         SegmentIndex::At { index, start, end } => {
             plain(112, 3, [index as u64, flag(start), flag(end), 0])
         }
-        SegmentIndex::OutOfBounds => number_reply(5),
+        SegmentIndex::OutOfBounds => value_reply(5, hop_idx as u64),
     }
 }
 

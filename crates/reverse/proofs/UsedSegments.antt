@@ -9,7 +9,7 @@ use lib.Dec.{eqb}
 use lib.ListN.{length}
 use borrow.Author.Tests.{eq-eqb, ne-eqb}
 use Rattle.standard_path.specs.Fields.{seg0Len, seg1Len, seg2Len}
-use Rattle.standard_path.specs.Segments.{PathSegment, segments, segmentCount}
+use Rattle.segments.specs.Segments.{PathSegment, segments, segmentCount}
 use Rattle.reverse.specs.Reverse.{usedSegments}
 
 module _ (path : List ℕ) where

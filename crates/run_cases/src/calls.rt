@@ -1,7 +1,6 @@
 // Each open call with a line for it: the call, the label, the answer and the bytes left.
 use crate::print;
 use routing::step;
-use standard_path::segments;
 
 // RFC 4493's key.
 const KEY: [u8; 16] = *b"\x2b\x7e\x15\x16\x28\xae\xd2\xa6\xab\xf7\x15\x88\x09\xcf\x4f\x3c";

@@ -1,8 +1,7 @@
 // What a line of the output is made of.
 use libc::STDOUT_FILENO;
 use reverse::Reversal;
-use standard_path::segments;
-use standard_path::segments::PathExpiration;
+use segments::PathExpiration;
 use validator::answer::AsRoutingAction;
 use validator::answer::IngressNextAction;
 use validator::answer::LocalAsRoutingAction;

@@ -2,5 +2,4 @@ pub mod Mac
 pub mod Layout
 pub mod Fields
 pub mod Header
-pub mod Segments
 pub mod Moves

@@ -2,5 +2,4 @@
 pub mod layout;
 pub mod mac;
 pub mod moves;
-pub mod segments;
 pub mod view;

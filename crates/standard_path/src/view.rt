@@ -86,7 +86,7 @@ pub fn set_curr_hop_field(path: &mut [u8], index: u8)
 // ---- parts
 
 // What is left from a place on.
-fn rest(path: &[u8], at: usize) -> &[u8]
+pub fn rest(path: &[u8], at: usize) -> &[u8]
     ensures { λ r. ⌜ now r ≡ drop at (now (path .entry)) ⌝ }
 {
     if at <= path.len() {

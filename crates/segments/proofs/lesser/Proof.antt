@@ -1,6 +1,6 @@
 use native.Mathlib.Omega.{arith}
-use Rattle.standard_path.proofs.segments.lesser.Statement.{statement}
-use Rattle.standard_path.proofs.segments.lesser.Tie as tie
+use Rattle.segments.proofs.lesser.Statement.{statement}
+use Rattle.segments.proofs.lesser.Tie as tie
 
 returns : tie.Need-returns
 returns c = omega arith

@@ -6,10 +6,10 @@ use Prim.Native.Nat.{ℕ, suc, _+_, _-_, _≤_, _<_, min}
 use native.Mathlib.Numerals.{add-one}
 use native.Mathlib.Omega.{arith}
 use Rattle.octets.specs.Bytes.{tabulate}
-use Rattle.standard_path.specs.Segments.{PathSegment, segments, nextSegment, firstPlace, least, segmentExpiry}
-use Rattle.standard_path.specs.declared.segments.SegmentPlace.{SegmentPlace}
-use Rattle.standard_path.specs.declared.segments.SegmentStep.the-variants.{Segment, End}
-use Rattle.standard_path.proofs.Walk.{Walk, ends, goes, walk-segments}
+use Rattle.segments.specs.Segments.{PathSegment, segments, nextSegment, firstPlace, least, segmentExpiry}
+use Rattle.segments.specs.declared.SegmentPlace.{SegmentPlace}
+use Rattle.segments.specs.declared.SegmentStep.the-variants.{Segment, End}
+use Rattle.segments.proofs.Walk.{Walk, ends, goes, walk-segments}
 
 pub least-capped : (times : List ℕ) → least times ≤ 4294967295
 least-capped [] = omega arith

@@ -1,8 +1,8 @@
 use borrow.Author.Needs.{needs}
-use Rattle.standard_path.specs.Segments.{segments, segmentCount}
-use Rattle.standard_path.proofs.Walk.{zero-length, nonzero-length}
-use Rattle.standard_path.proofs.segments.segment_count.Statement.{statement}
-use Rattle.standard_path.proofs.segments.segment_count.Tie as tie
+use Rattle.segments.specs.Segments.{segments, segmentCount}
+use Rattle.segments.proofs.Walk.{zero-length, nonzero-length}
+use Rattle.segments.proofs.segment_count.Statement.{statement}
+use Rattle.segments.proofs.segment_count.Tie as tie
 
 returns : tie.Need-returns
 unfolding segmentCount segments

@@ -1,6 +1,6 @@
 use borrow.Author.Needs.{needs}
-use Rattle.standard_path.proofs.segments.is_empty.Statement.{statement}
-use Rattle.standard_path.proofs.segments.is_empty.Tie as tie
+use Rattle.segments.proofs.is_empty.Statement.{statement}
+use Rattle.segments.proofs.is_empty.Tie as tie
 
 returns : tie.Need-returns
 returns c = cc

@@ -3,10 +3,10 @@ use mathlib.Core.Path.{_≡_}
 use Prim.Native.Nat.{_+_, _-_}
 use native.Mathlib.Omega.{arith}
 use Rattle.octets.specs.Bytes.{tabulate}
-use Rattle.standard_path.specs.Segments.{hopExpiry, segmentExpiry}
-use Rattle.standard_path.proofs.Expiry.{Left, left-all, left-more, left-none, times-more, times-none}
-use Rattle.standard_path.proofs.segments.segment_expiry.Statement.{statement}
-use Rattle.standard_path.proofs.segments.segment_expiry.Tie as tie
+use Rattle.segments.specs.Segments.{hopExpiry, segmentExpiry}
+use Rattle.segments.proofs.Expiry.{Left, left-all, left-more, left-none, times-more, times-none}
+use Rattle.segments.proofs.segment_expiry.Statement.{statement}
+use Rattle.segments.proofs.segment_expiry.Tie as tie
 
 abbrev Inv-loop : tie.InvT-loop
 Inv-loop path info-idx first-hop hop-count end expiry₀ hop₀ expiry hop =

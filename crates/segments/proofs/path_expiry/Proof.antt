@@ -3,12 +3,12 @@ use mathlib.Core.Path.{sym, _∙_}
 use Prim.Native.Nat.{_-_}
 use native.Mathlib.Omega.{arith}
 use denote.Ref.{now}
 use Rattle.standard_path.specs.Header.{hops}
-use Rattle.standard_path.specs.Segments.{pathExpiry}
-use Rattle.standard_path.proofs.Walk.{stepped, count-at-most}
-use Rattle.standard_path.proofs.Expiry.{Ahead, ahead-all, ahead-more, ahead-none}
-use Rattle.standard_path.proofs.segments.path_expiry.Statement.{statement}
-use Rattle.standard_path.proofs.segments.path_expiry.Tie as tie
+use Rattle.segments.specs.Segments.{pathExpiry}
+use Rattle.segments.proofs.Walk.{stepped, count-at-most}
+use Rattle.segments.proofs.Expiry.{Ahead, ahead-all, ahead-more, ahead-none}
+use Rattle.segments.proofs.path_expiry.Statement.{statement}
+use Rattle.segments.proofs.path_expiry.Tie as tie
 
 abbrev Inv-loop : tie.InvT-loop
 Inv-loop path expiry₀ place₀ expiry place = Ahead path expiry place

@@ -1,7 +1,7 @@
 use borrow.Author.Needs.{needs}
-use Rattle.standard_path.specs.Segments.{hopExpiry}
-use Rattle.standard_path.proofs.segments.hop_expiry.Statement.{statement}
-use Rattle.standard_path.proofs.segments.hop_expiry.Tie as tie
+use Rattle.segments.specs.Segments.{hopExpiry}
+use Rattle.segments.proofs.hop_expiry.Statement.{statement}
+use Rattle.segments.proofs.hop_expiry.Tie as tie
 
 returns : tie.Need-returns
 unfolding hopExpiry

@@ -2,9 +2,9 @@ use borrow.Author.Needs.{needs}
 use mathlib.Core.Path.{sym}
 use native.Mathlib.Omega.{arith}
 use denote.Ref.{now}
-use Rattle.standard_path.proofs.Walk.{step-ends, step-short, step-goes}
-use Rattle.standard_path.proofs.segments.next_segment.Statement.{statement}
-use Rattle.standard_path.proofs.segments.next_segment.Tie as tie
+use Rattle.segments.proofs.Walk.{step-ends, step-short, step-goes}
+use Rattle.segments.proofs.next_segment.Statement.{statement}
+use Rattle.segments.proofs.next_segment.Tie as tie
 
 returns : tie.Need-returns
 returns c =

@@ -4,13 +4,13 @@
 // rewritten in Rattle, with contracts; the path and the place in it are passed separately; a header that is not whole is refused.
 // Copyright 2026 Anapaya Systems
 // Licensed under the Apache License, Version 2.0: see NOTICE.
-use crate::view;
-use crate::view::HeaderCheck;
+use standard_path::view;
+use standard_path::view::HeaderCheck;
 ghost use mathlib.Core.Path.{_≡_};
 ghost use Prim.Native.Nat.{_+_, _<_, min};
 ghost use lib.Dec.{eqb};
-ghost use Rattle.standard_path.specs.Segments.{segmentCount, segLen, firstPlace, nextSegment};
-ghost use Rattle.standard_path.specs.Segments.{hopExpiry, segmentExpiry, pathExpiry, expiration, expirationNumber};
+ghost use Rattle.segments.specs.Segments.{segmentCount, segLen, firstPlace, nextSegment};
+ghost use Rattle.segments.specs.Segments.{hopExpiry, segmentExpiry, pathExpiry, expiration, expirationNumber};
 
 // ---- the segments
 

@@ -8,11 +8,11 @@ use native.Mathlib.Omega.{arith}
 use borrow.Author.Tests.{eq-eqb, ne-eqb, le-leb, lt-leb, lt-ltb, le-ltb, leb-false, ltb-false}
 use lib.Dec.{eqb, ltb, leb}
 use lib.ListN.{length, getD}
 use Rattle.standard_path.specs.Header.{hops}
-use Rattle.standard_path.specs.Segments.{PathSegment, segmentsFrom, lengths, segments, segmentCount}
-use Rattle.standard_path.specs.Segments.{firstPlace, segLen, nextSegment}
-use Rattle.standard_path.specs.declared.segments.SegmentPlace.{SegmentPlace}
-use Rattle.standard_path.specs.declared.segments.SegmentStep.the-variants.{Segment, End}
+use Rattle.segments.specs.Segments.{PathSegment, segmentsFrom, lengths, segments, segmentCount}
+use Rattle.segments.specs.Segments.{firstPlace, segLen, nextSegment}
+use Rattle.segments.specs.declared.SegmentPlace.{SegmentPlace}
+use Rattle.segments.specs.declared.SegmentStep.the-variants.{Segment, End}
 
 -- the test of a length, from that of what was read
 pub zero-length : {read n : ℕ} → read ≡ n → read ≡ 0 → eqb n 0 ≡ true

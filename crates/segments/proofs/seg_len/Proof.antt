@@ -4,9 +4,9 @@ use Prim.Native.Nat.{_≤_}
 use native.Mathlib.Omega.{arith}
 use denote.Ref.{now}
 use lib.ListN.{length, List·getD-eq-default}
-use Rattle.standard_path.specs.Segments.{lengths, segLen}
-use Rattle.standard_path.proofs.segments.seg_len.Statement.{statement}
-use Rattle.standard_path.proofs.segments.seg_len.Tie as tie
+use Rattle.segments.specs.Segments.{lengths, segLen}
+use Rattle.segments.proofs.seg_len.Statement.{statement}
+use Rattle.segments.proofs.seg_len.Tie as tie
 
 returns : tie.Need-returns
 unfolding segLen

@@ -1,8 +1,8 @@
 use borrow.Author.Needs.{needs}
 use mathlib.Core.Path.{sym, ap₂, _∙_}
-use Rattle.standard_path.specs.Segments.{expirationAfter, expiration}
-use Rattle.standard_path.proofs.segments.expiration.Statement.{statement}
-use Rattle.standard_path.proofs.segments.expiration.Tie as tie
+use Rattle.segments.specs.Segments.{expirationAfter, expiration}
+use Rattle.segments.proofs.expiration.Statement.{statement}
+use Rattle.segments.proofs.expiration.Tie as tie
 
 returns : tie.Need-returns
 unfolding expiration

@@ -6,15 +6,15 @@ use mathlib.Core.List.{List, [], _∷_, map}
 use lib.Dec.{eqb, ltb, leb}
 use lib.ListN.{length, getD}
 use Rattle.octets.specs.Bytes.{tabulate}
 use Rattle.standard_path.specs.Fields.{seg0Len, seg1Len, seg2Len, timestamp, expTime, expiry}
 use Rattle.standard_path.specs.Header.{hops, infoField, hopField, headerCheck}
 use Rattle.standard_path.specs.declared.view.HeaderCheck.{HeaderCheck}
 use Rattle.standard_path.specs.declared.view.HeaderCheck.the-variants as check
-use Rattle.standard_path.specs.declared.segments.SegmentPlace.{SegmentPlace}
-use Rattle.standard_path.specs.declared.segments.SegmentStep.{SegmentStep}
-use Rattle.standard_path.specs.declared.segments.SegmentStep.the-variants.{Segment, End}
-use Rattle.standard_path.specs.declared.segments.PathExpiration.{PathExpiration}
-use Rattle.standard_path.specs.declared.segments.PathExpiration.the-variants.{At, MetaTooShort, DataTooShort, TooManyHops}
+use Rattle.segments.specs.declared.SegmentPlace.{SegmentPlace}
+use Rattle.segments.specs.declared.SegmentStep.{SegmentStep}
+use Rattle.segments.specs.declared.SegmentStep.the-variants.{Segment, End}
+use Rattle.segments.specs.declared.PathExpiration.{PathExpiration}
+use Rattle.segments.specs.declared.PathExpiration.the-variants.{At, MetaTooShort, DataTooShort, TooManyHops}
 
 -- ---- the segments
 
