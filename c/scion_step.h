@@ -64,7 +64,7 @@ ScionReply scion_try_reverse(uint8_t *path, size_t path_length);
 /* When the path expires. */
 ScionReply scion_expiration(const uint8_t *path, size_t path_length);
 
-/* The segment that a hop lies in; 5 if there is no such hop. */
+/* The segment that a hop lies in; 5 with the index if there is no such hop. */
 ScionReply scion_calculate_segment_index(const uint8_t *path, size_t path_length, uint8_t hop_idx);
 
 /*

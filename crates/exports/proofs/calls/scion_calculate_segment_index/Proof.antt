@@ -5,7 +5,7 @@ use Rattle.exports.proofs.calls.scion_calculate_segment_index.Statement
 use Rattle.exports.proofs.calls.scion_calculate_segment_index.Tie as tie
 
 returns : tie.Need-returns
-returns c = c .segment-reply .ensures ∙ ap segmentReply (c .before .calculate-segment-index .ensures)
+returns c = c .segment-reply .ensures ∙ ap (segmentReply _) (c .before .calculate-segment-index .ensures)
 
 pub scion-calculate-segment-index-spec : {M : Type 1} → statement M
 scion-calculate-segment-index-spec =

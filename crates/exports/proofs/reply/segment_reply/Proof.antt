@@ -10,7 +10,7 @@ returns c = rw (c .before .before .before .before .answer .given .1) (c .plain .
 
 returns-2 : tie.Need-returns-2
 unfolding segmentReply
-returns-2 c = rw (c .before .enum-told .given .1) (c .number-reply .ensures)
+returns-2 c = rw (c .before .enum-told .given .1) (c .value-reply .ensures)
 
 pub segment-reply-spec : {M : Type 1} → statement M
 segment-reply-spec =
