@@ -17,6 +17,12 @@ pub fn byte_at(bytes: &[u8], at: usize) -> u8
     if at < bytes.len() { bytes[at] } else { 0 }
 }
 
+pub fn u8_at(bytes: &[u8], at: u8) -> u8
+    ensures { λ r. ⌜ r ≡ getD (now (bytes .entry)) at 0 ⌝ }
+{
+    byte_at(bytes, at as usize)
+}
+
 pub fn u16_at(bytes: &[u8], at: u8) -> u16
     ensures { λ r. ⌜ r ≡ be16At (now (bytes .entry)) at ⌝ }
 {

@@ -6,6 +6,7 @@
 // Licensed under the Apache License, Version 2.0: see NOTICE.
 use standard_path::layout::HopFieldLayout;
 use standard_path::layout::InfoFieldLayout;
+use standard_path::layout::StdPathMetaLayout;
 use standard_path::view;
 use standard_path::view::HeaderCheck;
 ghost use mathlib.Core.Path.{_≡_};
@@ -67,10 +68,22 @@ fn set_lengths(path: &mut [u8], seg0: u8, seg1: u8, seg2: u8)
     requires { ⌜ (seg0 < 64) × ((seg1 < 64) × (seg2 < 64)) ⌝ }
     ensures { λ _. ⌜ now (path .exit) ≡ setLengths (now (path .entry)) seg0 seg1 seg2 ⌝ }
 {
-    let reserved = octets::byte_at(path, 1) / 4;
-    octets::put_byte(path, 1, reserved * 4 + seg0 / 0x10);
-    octets::put_byte(path, 2, seg0 % 0x10 * 0x10 + seg1 / 4);
-    octets::put_byte(path, 3, seg1 % 4 * 0x40 + seg2);
+    let reserved = octets::u8_at(path, StdPathMetaLayout::SEG0_LEN) / 4;
+    octets::put_byte(
+        path,
+        StdPathMetaLayout::SEG0_LEN as usize,
+        reserved * 4 + seg0 / 0x10,
+    );
+    octets::put_byte(
+        path,
+        StdPathMetaLayout::SEG1_LEN as usize,
+        seg0 % 0x10 * 0x10 + seg1 / 4,
+    );
+    octets::put_byte(
+        path,
+        StdPathMetaLayout::SEG2_LEN as usize,
+        seg1 % 4 * 0x40 + seg2,
+    );
 }
 
 // The used lengths end for end.
@@ -98,7 +111,7 @@ fn toggle_cons_dirs(path: &mut [u8], infos: u8)
 {
     let mut index: u8 = 0;
     while index < infos {
-        let at = InfoFieldLayout::offset(index);
+        let at = InfoFieldLayout::offset(index) + InfoFieldLayout::FLAGS as usize;
         let flags = octets::byte_at(path, at);
         octets::put_byte(path, at, flags / 2 * 2 + (1 - flags % 2));
         index += 1;

@@ -11,6 +11,19 @@ pub struct StdPathMetaLayout;
 
 impl StdPathMetaLayout {
     pub const SIZE_BYTES: usize = 4;
+
+    // The byte in which each field starts. CurrINF has two bits and CurrHF six, in one byte; then there are six reserved bits, and six
+    // for each length.
+    pub const CURR_INFO_FIELD: u8 = 0;
+
+    pub const CURR_HOP_FIELD: u8 = 0;
+
+    pub const SEG0_LEN: u8 = 1;
+
+    pub const SEG1_LEN: u8 = 2;
+
+    pub const SEG2_LEN: u8 = 3;
+
     // 01's limit, one more than the Rust's constant of this name.
     pub const MAX_TOTAL_HOPS: u8 = 64;
 }

@@ -16,8 +16,9 @@ pub fn set_segment_id(path: &mut [u8], index: u8, value: u16)
     ensures { λ _. ⌜ now (path .exit) ≡ setSegId (now (path .entry)) index value ⌝ }
 {
     let at = InfoFieldLayout::offset(index);
-    octets::put_byte(path, at + 2, (value / 0x100) as u8);
-    octets::put_byte(path, at + 3, (value % 0x100) as u8);
+    let high = InfoFieldLayout::SEGMENT_ID as usize;
+    octets::put_byte(path, at + high, (value / 0x100) as u8);
+    octets::put_byte(path, at + (high + 1), (value % 0x100) as u8);
 }
 
 // The flags without the ConsIngress alert, or without the ConsEgress alert.
@@ -34,7 +35,8 @@ fn without_alert(flags: u8, ingress: bool) -> u8
 pub fn clear_ingress_alert(path: &mut [u8], cons_dir: bool, hop_idx: u8)
     ensures { λ _. ⌜ now (path .exit) ≡ clearIngressAlert (now (path .entry)) «cons_dir» «hop_idx» ⌝ }
 {
-    let at = HopFieldLayout::offset(view::info_field_count(path), hop_idx);
+    let at = HopFieldLayout::offset(view::info_field_count(path), hop_idx)
+        + HopFieldLayout::FLAGS as usize;
     let flags = octets::byte_at(path, at);
     octets::put_byte(path, at, without_alert(flags, cons_dir));
 }

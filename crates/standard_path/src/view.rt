@@ -22,31 +22,33 @@ ghost use Rattle.standard_path.specs.Header.{infos, hops, headerSize, in
 pub fn curr_info_field_idx(path: &[u8]) -> u8
     ensures { λ r. ⌜ r ≡ currInf (now (path .entry)) ⌝ }
 {
-    octets::byte_at(path, 0) / 0x40
+    octets::u8_at(path, StdPathMetaLayout::CURR_INFO_FIELD) / 0x40
 }
 
 pub fn curr_hop_field_idx(path: &[u8]) -> u8
     ensures { λ r. ⌜ r ≡ currHf (now (path .entry)) ⌝ }
 {
-    octets::byte_at(path, 0) % 0x40
+    octets::u8_at(path, StdPathMetaLayout::CURR_HOP_FIELD) % 0x40
 }
 
 pub fn seg0_len(path: &[u8]) -> u8
     ensures { λ r. ⌜ r ≡ seg0Len (now (path .entry)) ⌝ }
 {
-    octets::byte_at(path, 1) % 4 * 0x10 + octets::byte_at(path, 2) / 0x10
+    octets::u8_at(path, StdPathMetaLayout::SEG0_LEN) % 4 * 0x10
+        + octets::u8_at(path, StdPathMetaLayout::SEG1_LEN) / 0x10
 }
 
 pub fn seg1_len(path: &[u8]) -> u8
     ensures { λ r. ⌜ r ≡ seg1Len (now (path .entry)) ⌝ }
 {
-    octets::byte_at(path, 2) % 0x10 * 4 + octets::byte_at(path, 3) / 0x40
+    octets::u8_at(path, StdPathMetaLayout::SEG1_LEN) % 0x10 * 4
+        + octets::u8_at(path, StdPathMetaLayout::SEG2_LEN) / 0x40
 }
 
 pub fn seg2_len(path: &[u8]) -> u8
     ensures { λ r. ⌜ r ≡ seg2Len (now (path .entry)) ⌝ }
 {
-    octets::byte_at(path, 3) % 0x40
+    octets::u8_at(path, StdPathMetaLayout::SEG2_LEN) % 0x40
 }
 
 fn nonzero_length(length: u8) -> u8
@@ -72,7 +74,11 @@ pub fn set_curr_info_field(path: &mut [u8], index: u8)
     ensures { λ _. ⌜ now (path .exit) ≡ setCurrInf (now (path .entry)) index ⌝ }
 {
     let kept = curr_hop_field_idx(path);
-    octets::put_byte(path, 0, index % 4 * 0x40 + kept);
+    octets::put_byte(
+        path,
+        StdPathMetaLayout::CURR_INFO_FIELD as usize,
+        index % 4 * 0x40 + kept,
+    );
 }
 
 // Six bits are kept of the index.
@@ -80,7 +86,11 @@ pub fn set_curr_hop_field(path: &mut [u8], index: u8)
     ensures { λ _. ⌜ now (path .exit) ≡ setCurrHf (now (path .entry)) index ⌝ }
 {
     let kept = curr_info_field_idx(path);
-    octets::put_byte(path, 0, kept * 0x40 + index % 0x40);
+    octets::put_byte(
+        path,
+        StdPathMetaLayout::CURR_HOP_FIELD as usize,
+        kept * 0x40 + index % 0x40,
+    );
 }
 
 // ---- parts
@@ -101,9 +111,8 @@ pub fn info_field(path: &[u8], index: u8) -> &[u8]
     ensures { λ r. ⌜ now r ≡ infoField (now (path .entry)) index ⌝ }
 {
     let at = InfoFieldLayout::offset(index);
-    let end = at + InfoFieldLayout::SIZE_BYTES;
-    if end <= path.len() {
-        &path[at..end]
+    if at + InfoFieldLayout::SIZE_BYTES <= path.len() {
+        &path[at..at + InfoFieldLayout::SIZE_BYTES]
     } else {
         rest(path, at)
     }
@@ -113,9 +122,8 @@ pub fn hop_field(path: &[u8], index: u8) -> &[u8]
     ensures { λ r. ⌜ now r ≡ hopField (now (path .entry)) index ⌝ }
 {
     let at = HopFieldLayout::offset(info_field_count(path), index);
-    let end = at + HopFieldLayout::SIZE_BYTES;
-    if end <= path.len() {
-        &path[at..end]
+    if at + HopFieldLayout::SIZE_BYTES <= path.len() {
+        &path[at..at + HopFieldLayout::SIZE_BYTES]
     } else {
         rest(path, at)
     }
@@ -204,14 +212,14 @@ pub fn calculate_segment_index(path: &[u8], hop_idx: u8) -> SegmentIndex
 pub fn cons_dir(info: &[u8]) -> bool
     ensures { λ r. ⌜ r ≡ consDir (now (info .entry)) ⌝ }
 {
-    octets::byte_at(info, 0) % 2 == 1
+    octets::u8_at(info, InfoFieldLayout::FLAGS) % 2 == 1
 }
 
 // The flag P. The step gives it no meaning.
 pub fn peering_flag(info: &[u8]) -> bool
     ensures { λ r. ⌜ r ≡ peering (now (info .entry)) ⌝ }
 {
-    octets::byte_at(info, 0) / 2 % 2 == 1
+    octets::u8_at(info, InfoFieldLayout::FLAGS) / 2 % 2 == 1
 }
 
 pub fn segment_id(info: &[u8]) -> u16
@@ -231,19 +239,19 @@ pub fn info_timestamp(info: &[u8]) -> u32
 pub fn cons_egress_router_alert(hop: &[u8]) -> bool
     ensures { λ r. ⌜ r ≡ consEgressAlert (now (hop .entry)) ⌝ }
 {
-    octets::byte_at(hop, 0) % 2 == 1
+    octets::u8_at(hop, HopFieldLayout::FLAGS) % 2 == 1
 }
 
 pub fn cons_ingress_router_alert(hop: &[u8]) -> bool
     ensures { λ r. ⌜ r ≡ consIngressAlert (now (hop .entry)) ⌝ }
 {
-    octets::byte_at(hop, 0) / 2 % 2 == 1
+    octets::u8_at(hop, HopFieldLayout::FLAGS) / 2 % 2 == 1
 }
 
 pub fn exp_time(hop: &[u8]) -> u8
     ensures { λ r. ⌜ r ≡ expTime (now (hop .entry)) ⌝ }
 {
-    octets::byte_at(hop, 1)
+    octets::u8_at(hop, HopFieldLayout::EXP_TIME)
 }
 
 pub fn cons_ingress(hop: &[u8]) -> u16
@@ -262,12 +270,12 @@ pub fn mac(hop: &[u8]) -> [u8; 6]
     ensures { λ r. ⌜ r ≡ macField (now (hop .entry)) ⌝ }
 {
     [
-        octets::byte_at(hop, 6),
-        octets::byte_at(hop, 7),
-        octets::byte_at(hop, 8),
-        octets::byte_at(hop, 9),
-        octets::byte_at(hop, 10),
-        octets::byte_at(hop, 11),
+        octets::u8_at(hop, HopFieldLayout::MAC),
+        octets::u8_at(hop, HopFieldLayout::MAC + 1),
+        octets::u8_at(hop, HopFieldLayout::MAC + 2),
+        octets::u8_at(hop, HopFieldLayout::MAC + 3),
+        octets::u8_at(hop, HopFieldLayout::MAC + 4),
+        octets::u8_at(hop, HopFieldLayout::MAC + 5),
     ]
 }
 

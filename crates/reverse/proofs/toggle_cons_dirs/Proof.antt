@@ -1,5 +1,5 @@
 use borrow.Author.Needs.{needs}
-use Prim.Native.Nat.{ℕ, _-_, _≤_}
+use Prim.Native.Nat.{ℕ, _+_, _-_, _≤_}
 use mathlib.Core.Path.{_≡_, refl, ap, _∙_}
 use native.Mathlib.Omega.{arith}
 use native.Mathlib.Numerals.{add-one}
@@ -23,7 +23,9 @@ loop-again : tie.Need-loop-again Inv-loop μ-loop
 unfolding toggleConsDirs toggleConsDir
 loop-again c =
     let inv = c .before .before .before .before .before .before .before .before .loop .inv in
-    (omega arith, (c .before .before .put-byte .kept .0 ∙ inv .1 .0, rw add-one (cc)))
+    let first : (k : ℕ) → k + 0 ≡ k = λ k. omega arith in
+    let at = c .before .before .before .before .before .before .offset .result in
+    (omega arith, (c .before .before .put-byte .kept .0 ∙ inv .1 .0, rw add-one (cc (first at))))
 
 returns : tie.Need-returns Inv-loop μ-loop
 returns c =
@@ -38,6 +40,8 @@ toggle-cons-dirs-spec =
     μ-loop
     loop-holds
     (λ c κs. search needs)
+    (λ c. search needs)
+    (λ c. search needs)
     (λ c κs. search needs)
     (λ c. search needs)
     (λ c. search needs)

@@ -1,11 +1,15 @@
 use borrow.Author.Needs.{needs}
+use mathlib.Core.Path.{_∙_}
 use Rattle.standard_path.specs.Moves.{setSegId}
 use Rattle.standard_path.proofs.moves.set_segment_id.Statement.{statement}
 use Rattle.standard_path.proofs.moves.set_segment_id.Tie as tie
 
 returns : tie.Need-returns
 unfolding setSegId
-returns c = cc
+returns c =
+    let offset = c .before .before .before .before .before .before .before .before .offset in
+    let first = c .before .before .before .before .before .before .put-byte in
+    c .before .before .put-byte2 .ensures ∙ rw (first .ensures, offset .ensures)
 
 pub set-segment-id-spec : {M : Type 1} → statement M
 set-segment-id-spec =
@@ -14,7 +18,9 @@ set-segment-id-spec =
     (λ c κs. search needs)
     (λ c. search needs)
     (λ c. search needs)
+    (λ c. search needs)
     (λ c κs. search needs)
+    (λ c. search needs)
     (λ c. search needs)
     (λ c. search needs)
     (λ c κs. search needs)

@@ -6,16 +6,21 @@ use Rattle.standard_path.proofs.view.mac.Tie as tie
 
 returns : tie.Need-returns
 unfolding macField
-returns c = λ i. c .before .before .before .before .before .byte-at .ensures i ∷ c .before .before .before .before .byte-at2 .ensures i ∷ c .before .before .before .byte-at3 .ensures i ∷ c .before .before .byte-at4 .ensures i ∷ c .before .byte-at5 .ensures i ∷ c .byte-at6 .ensures i ∷ []
+returns c = λ i. c .before .before .before .before .before .u8-at .ensures i ∷ c .before .before .before .before .u8-at2 .ensures i ∷ c .before .before .before .u8-at3 .ensures i ∷ c .before .before .u8-at4 .ensures i ∷ c .before .u8-at5 .ensures i ∷ c .u8-at6 .ensures i ∷ []
 
 pub mac-spec : {M : Type 1} → statement M
 mac-spec =
     tie.close
     (tie.spec
     (λ c κs. search needs)
+    (λ c. search needs)
     (λ c κs. search needs)
+    (λ c. search needs)
     (λ c κs. search needs)
+    (λ c. search needs)
     (λ c κs. search needs)
+    (λ c. search needs)
     (λ c κs. search needs)
+    (λ c. search needs)
     (λ c κs. search needs)
     returns)

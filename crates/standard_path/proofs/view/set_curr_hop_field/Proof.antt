@@ -20,6 +20,7 @@ set-curr-hop-field-spec =
     tie.close
     (tie.spec
     (λ c κs. search needs)
+    (λ c. search needs)
     mul-put-byte
     add-put-byte
     (λ c κs. search needs)

@@ -15,6 +15,7 @@ set-curr-info-field-spec =
     (λ c κs. search needs)
     (λ c. search needs)
     (λ c. search needs)
+    (λ c. search needs)
     (λ c κs. search needs)
     (λ c. search needs)
     returns)
