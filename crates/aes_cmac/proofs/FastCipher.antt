@@ -9,9 +9,11 @@ use Rattle.aes_cmac.specs.Block.{xorBlock}
 use Rattle.aes_sbox.specs.Field.{mul, sBox, subByte}
 use Rattle.aes_cmac.specs.Cipher.{mixedByte, subBytes, shiftRows, mixColumns, round, rounds, cipher}
 use Rattle.aes_cmac.specs.KeyExpansion.{xorWord}
-use Rattle.aes_cmac.specs.Words.{rotated}
-use Rattle.aes_cmac.specs.ByTable.{spread, spreads, roundTable, entryOf, substitutedBy, columnBy, lastColumnBy, columns, roundBy, lastRoundBy, roundsBy, cipherBy}
+use Rattle.aes_cmac.specs.ByTable.{spreads, roundTable, rotated, entryOf, substitutedBy, columnBy, lastColumnBy, columns, roundBy, lastRoundBy, roundsBy, cipherBy}
 use Rattle.octets.proofs.Xor.{xor-turn}
+
+abbrev spread : ℕ → List ℕ
+spread s = mul 2 s ∷ s ∷ s ∷ mul 3 s ∷ []
 
 entry-spreads : (l : List ℕ) (x : ℕ) → entryOf (spreads l) x ≡ spread (getD l x 0)
 unfolding mul

@@ -8,7 +8,8 @@ use lib.Bits.{bitXor, xor-shr, xor-mod}
 use lib.ListN.{getD}
 use Rattle.aes_cmac.specs.Block.{xorBlock}
 use Rattle.aes_cmac.specs.KeyExpansion.{xorWord, rotWord, subWord, joined}
-use Rattle.aes_cmac.specs.Words.{wordBytes, wordsBytes, stateBytes, blockWords, rotated, nextWords}
+use Rattle.aes_cmac.specs.Words.{wordBytes, wordsBytes, stateBytes, blockWords, nextWords}
+use Rattle.aes_cmac.specs.ByTable.{rotated}
 use Rattle.octets.proofs.Xor.{xor-assoc}
 
 bytes-eq : (w : ℕ) {a b c d : ℕ} → w % 256 ≡ a → w / 256 % 256 ≡ b → w / 65536 % 256 ≡ c → w / 16777216 % 256 ≡ d

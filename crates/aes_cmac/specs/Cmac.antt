@@ -30,7 +30,7 @@ doubled l = cond (ltb (getD l 0 0) 128) (shiftLeft l) (xorBlock (shiftLeft l) co
 
 -- section 2.3, Generate_Subkey: K1, from the cipher under the key
 unfoldable pub subkey1 : (List ℕ → List ℕ) → List ℕ
-subkey1 e = doubled (e constZero)
+subkey1 encrypt = doubled (encrypt constZero)
 
 -- section 2.4, steps 2 and 3: n, the number of blocks of a message of len bytes
 abbrev pub blockCount : ℕ → ℕ
@@ -60,12 +60,12 @@ lastBlock k1 m =
 
 -- section 2.4, steps 5 and 6: X after n of the blocks
 unfoldable pub chained : (List ℕ → List ℕ) → List ℕ → ℕ → List ℕ
-chained e m zero = constZero
-chained e m (suc n) = e (xorBlock (chained e m n) (blockAt m (16 * n)))
+chained encrypt m zero = constZero
+chained encrypt m (suc n) = encrypt (xorBlock (chained encrypt m n) (blockAt m (16 * n)))
 
 -- section 2.4, steps 4 to 7: T, from the cipher under the key and K1
 unfoldable pub macWith : (List ℕ → List ℕ) → List ℕ → List ℕ → List ℕ
-macWith e k1 m = e (xorBlock (chained e m (blockCount (length m) - 1)) (lastBlock k1 m))
+macWith encrypt k1 m = encrypt (xorBlock (chained encrypt m (blockCount (length m) - 1)) (lastBlock k1 m))
 
 -- section 2.4, AES-CMAC
 unfoldable pub aesCmac : List ℕ → List ℕ → List ℕ

@@ -21,10 +21,6 @@ blockWords b = wordAt b 0 ∷ wordAt b 1 ∷ wordAt b 2 ∷ wordAt b 3 ∷ []
 abbrev pub stateBytes : List ℕ → List ℕ
 stateBytes w = joined (wordsBytes w)
 
--- four bytes one place on, the last to the front
-abbrev pub rotated : List ℕ → List ℕ
-rotated a = getD a 3 0 ∷ getD a 0 0 ∷ getD a 1 0 ∷ getD a 2 0 ∷ []
-
 -- FIPS 197, section 5.2: the words w[i], .., w[i + 3] from w[i - 4], .., w[i - 1], i a multiple of 4, and Rcon[i / 4]
 unfoldable pub nextWords : List ℕ → List (List ℕ) → List (List ℕ)
 nextWords rc w =

@@ -11,7 +11,7 @@ ghost use Prim.Native.Nat.{_/_, _%_};
 ghost use Rattle.aes_cmac.specs.Block.{xorBlock};
 ghost use Rattle.aes_sbox.specs.Field.{sBox, subByte};
 ghost use Rattle.aes_cmac.specs.Cipher.{cipher};
-ghost use Rattle.aes_cmac.specs.KeyExpansion.{rotWord, subWord, rconByte, roundKeys};
+ghost use Rattle.aes_cmac.specs.KeyExpansion.{rotWord, subWord, roundKeys};
 ghost use Rattle.aes_cmac.specs.Words.{wordBytes, wordsBytes, stateBytes, nextWords};
 ghost use Rattle.aes_cmac.specs.ByTable.{roundTable, entryOf, substitutedBy, columnBy, lastColumnBy, roundBy, lastRoundBy, cipherBy};
 

@@ -2,7 +2,8 @@
 ghost use mathlib.Core.Path.{_≡_};
 ghost use mathlib.Core.List.{[], _∷_};
 ghost use Rattle.aes_cmac.specs.Block.{xorBlock};
-ghost use Rattle.aes_cmac.specs.Words.{wordBytes, wordsBytes, blockWords, stateBytes, rotated};
+ghost use Rattle.aes_cmac.specs.Words.{wordBytes, wordsBytes, blockWords, stateBytes};
+ghost use Rattle.aes_cmac.specs.ByTable.{rotated};
 
 pub fn word(byte0: u8, byte1: u8, byte2: u8, byte3: u8) -> u32
     ensures { λ r. ⌜ wordBytes r ≡ byte0 ∷ byte1 ∷ byte2 ∷ byte3 ∷ [] ⌝ }

@@ -11,7 +11,8 @@ use Rattle.itinerary.specs.Layout.{Layout}
 use Rattle.itinerary.specs.Records.{every, recordCount, bytesOf, nextOf, arrivalOf, firstInterfaceOf, keyOf}
 use Rattle.itinerary.specs.Records.{interfaceNumberOf, interfaceStateOf, firstStation, chain}
 
--- The limits below say how far chains are followed: how many stations, and how many records of each station's table.
+-- The limits below say how far chains are followed: how many stations, and how many records of each station's table. The code follows
+-- them only so far; those of the whole itinerary are at the end of this file.
 module _ (layout : Layout) (itinerary : List ℕ) where
   abbrev pub stationRecords : ℕ → List ℕ
   stationRecords stationLimit = chain layout itinerary stationLimit (firstStation layout itinerary)
@@ -110,6 +111,7 @@ module _ (layout : Layout) (itinerary : List ℕ) where
 
   -- ---- all of it: a sound chain goes up and so has fewer records than there are (proofs/Bound.antt)
 
+  -- 'Itinerary sound': the first part of `itineraryFits`
   abbrev pub itinerarySound : Bool
   itinerarySound = soundWithin layout itinerary (recordCount layout itinerary) (recordCount layout itinerary)
 

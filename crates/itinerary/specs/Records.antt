@@ -12,7 +12,7 @@ unfoldable pub every : {A : Type 0} → (A → Bool) → List A → Bool
 every holds [] = true
 every holds (x ∷ xs) = holds x && every holds xs
 
--- without the numbers in front that are below a bound
+-- for the contract of an inner function: without the numbers in front that are below a bound
 unfoldable pub dropBelow : ℕ → List ℕ → List ℕ
 dropBelow bound [] = []
 dropBelow bound (x ∷ xs) = cond (ltb x bound) (dropBelow bound xs) (x ∷ xs)

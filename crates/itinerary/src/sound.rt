@@ -12,7 +12,7 @@ ghost use Prim.Native.Nat.{_<_, _≤_};
 ghost use Rattle.itinerary.specs.Layout.{narrow};
 ghost use Rattle.itinerary.specs.Records.{every, chain, dropBelow};
 ghost use Rattle.itinerary.specs.Itinerary.{stationRecords, tableRecords, sizeSound, indexSound, nextSound, areZero};
-ghost use Rattle.itinerary.specs.Itinerary.{zerosSound, isNoStation, interfaceSound, stationSound, headSound, soundWithin};
+ghost use Rattle.itinerary.specs.Itinerary.{zerosSound, interfaceSound, stationSound, headSound, soundWithin};
 
 fn is_size_sound(itinerary: &[u8]) -> bool
     ensures { λ r. ⌜ r ≡ sizeSound narrow (now (itinerary .entry)) ⌝ }

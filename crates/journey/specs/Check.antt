@@ -14,7 +14,7 @@ use Rattle.validator.specs.Check.{macNumber, rightMac, isListed, linkOf}
 use Rattle.routing.specs.Step.{keyMac, isUpListed}
 use Rattle.itinerary.specs.Itinerary.{Station}
 
--- for each number below the first
+-- whether it holds of each number below n
 unfoldable pub all : ℕ → (ℕ → Bool) → Bool
 all zero holds = true
 all (suc n) holds = all n holds && holds n

@@ -1,4 +1,4 @@
--- When each hop of a path has a station: the lengths fit, and the stations are as many as 23 counts.
+-- For the contracts of inner functions. Each hop of a path has a station: the lengths fit, and the stations are as many as 23 counts.
 -- Assumes nothing.
 use Prim.Native.Nat.{ℕ}
 use mathlib.Core.Path.{_≡_}

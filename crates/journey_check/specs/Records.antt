@@ -1,4 +1,5 @@
--- The records behind one in its chain, by their number. The itinerary's own chains end at 0; this does not, and needs no limit.
+-- For the contracts of inner functions: the records behind one in its chain, by their number. The itinerary's own chains end at 0;
+-- this does not, and needs no limit.
 -- Assumes nothing.
 use Prim.Native.Nat.{ℕ, zero, suc}
 use mathlib.Core.List.{List}

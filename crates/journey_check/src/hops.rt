@@ -63,7 +63,7 @@ fn mac_fits(table: &[u8; 1024], key: [u8; 16], info: &[u8], hop: &[u8], segment_
         round_keys,
         k1,
         segment_id,
-        view::info_timestamp(info),
+        view::timestamp(info),
         view::exp_time(hop),
         view::cons_ingress(hop),
         view::cons_egress(hop),

@@ -70,7 +70,7 @@ fn segment_fits(
         (infoField (now (path .entry)) segment) (hopOf (now (path .entry)) segment) (countOf (now (path .entry)) segment) ⌝ }
 {
     let info = view::info_field(path, segment);
-    if earliest < view::info_timestamp(info) {
+    if earliest < view::timestamp(info) {
         return false;
     }
     let count = hops::hop_count(path, segment);

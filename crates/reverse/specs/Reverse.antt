@@ -73,7 +73,7 @@ lastFirst size (suc n) l = lastFirst size n (drop size l) ++ take size l
 unfoldable pub reverseFields : ℕ → ℕ → ℕ → List ℕ → List ℕ
 reverseFields at size n path = take at path ++ (lastFirst size n (drop at path) ++ drop (at + size * n) path)
 
--- two fields exchanged, byte for byte
+-- for the contract of an inner function: two fields exchanged, byte for byte
 unfoldable pub swapFields : ℕ → ℕ → ℕ → List ℕ → List ℕ
 swapFields zero low high path = path
 swapFields (suc size) low high path = swapFields size (suc low) (suc high) (set (set path low (getD path high 0)) high (getD path low 0))

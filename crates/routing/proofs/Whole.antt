@@ -61,7 +61,7 @@ module _ (ids states : List ℕ) (mac : MacFunction) (interface time : ℕ) (unc
       go : (first : Validation) → firstNo (before ids states path) ≡ first → (place : Validation) → firstNo (ingressPlace path) ≡ place
           → (passed : Validation) → firstNo checks ≡ passed → (alert : Bool) → alertsAtIngress path interface ≡ alert
           → (final : Bool) → isFinal path ≡ final
-          → let in′ : Outcome IngressNextAction =
+          → let outcome : Outcome IngressNextAction =
           asks Stopped first path
           (asks Stopped place path
           (record {
@@ -70,7 +70,7 @@ module _ (ids states : List ℕ) (mac : MacFunction) (interface time : ℕ) (unc
                 (cond final (Complete (Local ForwardLocal)) (ContinueEgress way)));
             bytes = entered;
           })) in
-          stepFrom (in′ .answer) ids states mac time unchecked (in′ .bytes)
+          stepFrom (outcome .answer) ids states mac time unchecked (outcome .bytes)
           ≡ asks Refused first path (asks Refused place path (asks Refused passed entered (acted alert final)))
       go (Invalid why) a place b passed c alert d final e = refl
       go Valid a (Invalid why) b passed c alert d final e = refl

@@ -71,7 +71,7 @@ egressPlace path =
     ∷ (not (ends path), AdvanceFailed SegmentEnd)
     ∷ []
 
--- ---- where the path stands, or why it cannot go on
+-- ---- for the contract of an inner function: whether it `changes` segment and is the last hop, or why the path cannot go on
 
 abbrev pub located : Validation → Bool → Bool → Located
 located Valid change last = Here change last

@@ -25,6 +25,7 @@ use Rattle.routing.specs.Egress.{egress}
 abbrev pub keyMac : List ℕ → MacFunction
 keyMac key = λ segId start units ingress egress. hopMac segId start units ingress egress key
 
+-- where the checks are made: at ingress or egress, on which interface, when, and whether MACs are ignored
 abbrev pub atIngress : ℕ → ℕ → Bool → StandardValidator
 atIngress interface time unchecked = record { ingress = true; interface = interface; time = time; unchecked = unchecked }
 
@@ -42,12 +43,13 @@ leavingQuestions listed out path =
     ∷ (isUpListed listed, EgressInterfaceDown (currHf path) out)
     ∷ []
 
+-- 15 and 17, then egress
 abbrev pub leave : List ℕ → List ℕ → MacFunction → StandardValidator → List ℕ → Outcome StepAnswer
 leave ids states mac at path =
     asks Refused (firstNo (leavingQuestions (stateOf ids states (at .interface)) (at .interface) path)) path
     (egress ids states mac at path)
 
--- the answer of an ingress that does not go on; for one that goes on it is not asked
+-- the answer of an ingress that does not go on. `stepFrom` asks it of no other; the last line is there since a function has to answer
 unfoldable pub finished : IngressNextAction → StepAnswer
 finished (Complete action) = Action action
 finished (Stopped why) = Refused why
@@ -59,7 +61,8 @@ stepFrom (ContinueEgress out) ids states mac time unchecked path = leave ids sta
 stepFrom (Complete action) ids states mac time unchecked path = record { answer = finished (Complete action); bytes = path }
 stepFrom (Stopped why) ids states mac time unchecked path = record { answer = finished (Stopped why); bytes = path }
 
+-- the whole step of an AS on a path: its table, the hop MAC under its key, the interface that the packet came in by, the time
 unfoldable pub step : List ℕ → List ℕ → MacFunction → ℕ → ℕ → Bool → List ℕ → Outcome StepAnswer
 step ids states mac interface time unchecked path =
-    let in′ = ingress ids states mac (atIngress interface time unchecked) path in
-    stepFrom (in′ .answer) ids states mac time unchecked (in′ .bytes)
+    let outcome = ingress ids states mac (atIngress interface time unchecked) path in
+    stepFrom (outcome .answer) ids states mac time unchecked (outcome .bytes)

@@ -1,4 +1,4 @@
-// The standard-path forwarding step: its two halves, the whole step, and the SCMP error of a refusal.
+// The standard-path forwarding step: its two halves and the whole.
 mod egress;
 mod ingress;
 mod place;

@@ -24,7 +24,7 @@ seg1Len path = getD path 2 0 % 16 * 4 + getD path 3 0 / 64
 abbrev pub seg2Len : List ℕ → ℕ
 seg2Len path = getD path 3 0 % 64
 
--- an index is taken modulo what fits
+-- of an index the bits that fit
 unfoldable pub setCurrInf : List ℕ → ℕ → List ℕ
 setCurrInf path index = set path 0 (index % 4 * 64 + getD path 0 0 % 64)
 

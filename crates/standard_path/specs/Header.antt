@@ -1,4 +1,5 @@
--- The header of a path: its counts, its parts, questions 2 to 4, and the segment that a hop lies in.
+-- 01, 'types.rs, layout.rs', 'view.rs' and 'Before everything': the counts of a path's header, its parts, questions 2 to 4, and the
+-- segment that a hop lies in.
 -- Assumes nothing.
 use Prim.Native.Nat.{ℕ, _+_}
 use mathlib.Core.Bool.{Bool, cond}
@@ -12,6 +13,7 @@ use Rattle.standard_path.specs.declared.view.SegmentIndex.the-variants.{
 use Rattle.standard_path.specs.declared.view.HeaderCheck.{HeaderCheck}
 use Rattle.standard_path.specs.declared.view.HeaderCheck.the-variants.{Complete, MetaTooShort, DataTooShort, TooManyHops}
 
+-- 'Info fields are as many as the nonzero lengths'
 unfoldable pub infos : List ℕ → ℕ
 infos path = infoCount (seg0Len path) (seg1Len path) (seg2Len path)
 
@@ -45,7 +47,7 @@ headerCheck path =
 
 -- ---- a segment is known by its place among the three lengths, empty ones counted
 
--- the segment of hop h: the first that ends behind it
+-- the segment of hop h: the first that ends behind it; the third for a hop that is not there, which 5 turns down
 abbrev pub segmentOf : ℕ → ℕ → ℕ → ℕ
 segmentOf seg0 seg1 h = cond (ltb h seg0) 0 (cond (ltb h (seg0 + seg1)) 1 2)
 
@@ -56,7 +58,7 @@ segmentStart seg0 seg1 s = cond (eqb s 0) 0 (cond (eqb s 1) seg0 (seg0 + seg1))
 abbrev pub segmentEnd : ℕ → ℕ → ℕ → ℕ → ℕ
 segmentEnd seg0 seg1 seg2 s = cond (eqb s 0) seg0 (cond (eqb s 1) (seg0 + seg1) (seg0 + seg1 + seg2))
 
--- the segment of hop h, and whether the hop is its first, and its last
+-- `calculate_segment_index`: the segment of hop h, and whether the hop is its first, and its last
 unfoldable pub segmentAmong : ℕ → ℕ → ℕ → ℕ → SegmentIndex
 segmentAmong seg0 seg1 seg2 h =
     cond (ltb h (hopCount seg0 seg1 seg2))

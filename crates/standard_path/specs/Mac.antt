@@ -1,4 +1,4 @@
--- The hop MAC of document 01, 'mac.rs', as the Rust has it.
+-- 01, 'mac.rs': the hop MAC, as the Rust has it.
 -- Assumes nothing.
 use Prim.Native.Nat.{ℕ}
 use mathlib.Core.List.{List, [], _∷_, _++_}

@@ -15,7 +15,7 @@ ghost use Rattle.standard_path.specs.Fields.{currInf, currHf, seg0Len, s
 ghost use Rattle.standard_path.specs.Fields.{consDir, peering, segId, timestamp, consEgressAlert, consIngressAlert};
 ghost use Rattle.standard_path.specs.Fields.{expTime, consIngress, consEgress, macField, travelIngress, travelEgress};
 ghost use Rattle.standard_path.specs.Fields.{travelIngressAlert, travelEgressAlert, expiry};
-ghost use Rattle.standard_path.specs.Header.{infos, hops, headerSize, infoField, hopField, headerCheck, segmentAmong, segmentIndex};
+ghost use Rattle.standard_path.specs.Header.{infos, hops, infoField, hopField, headerCheck, segmentAmong, segmentIndex};
 
 // ---- the meta word
 
@@ -216,7 +216,7 @@ pub fn cons_dir(info: &[u8]) -> bool
 }
 
 // The flag P. The step gives it no meaning.
-pub fn peering_flag(info: &[u8]) -> bool
+pub fn peering(info: &[u8]) -> bool
     ensures { λ r. ⌜ r ≡ peering (now (info .entry)) ⌝ }
 {
     octets::u8_at(info, InfoFieldLayout::FLAGS) / 2 % 2 == 1
@@ -228,7 +228,7 @@ pub fn segment_id(info: &[u8]) -> u16
     octets::u16_at(info, InfoFieldLayout::SEGMENT_ID)
 }
 
-pub fn info_timestamp(info: &[u8]) -> u32
+pub fn timestamp(info: &[u8]) -> u32
     ensures { λ r. ⌜ r ≡ timestamp (now (info .entry)) ⌝ }
 {
     octets::u32_at(info, InfoFieldLayout::TIMESTAMP)
@@ -336,5 +336,5 @@ fn end_of(start: u32, units: u8) -> u32
 pub fn expiry_timestamp(hop: &[u8], info: &[u8]) -> u32
     ensures { λ r. ⌜ r ≡ expiry (timestamp (now (info .entry))) (expTime (now (hop .entry))) ⌝ }
 {
-    end_of(info_timestamp(info), exp_time(hop))
+    end_of(timestamp(info), exp_time(hop))
 }

@@ -63,7 +63,7 @@ abbrev pub isListed : Listed → Bool
 isListed (State state) = true
 isListed Nothing = false
 
--- the link type of a listed interface
+-- the link type of a listed interface; where one is not listed, 14, 15 or the journey's leaving interface has said no already
 abbrev pub linkOf : Listed → ℕ
 linkOf (State state) = linkType state
 linkOf Nothing = 0

@@ -66,7 +66,7 @@ fn expected_mac(
         round_keys,
         k1,
         segment_id,
-        view::info_timestamp(info),
+        view::timestamp(info),
         view::exp_time(hop),
         view::cons_ingress(hop),
         view::cons_egress(hop),
@@ -124,7 +124,7 @@ impl StandardValidator {
         if !self.interface_fits(hop, info) {
             return Validation::Invalid(self.wrong_interface(hop_index, hop, info));
         }
-        if self.time < view::info_timestamp(info) {
+        if self.time < view::timestamp(info) {
             return Validation::Invalid(StandardRoutingError::FutureTimestamp { hop_index });
         }
         if view::expiry_timestamp(hop, info) < self.time {

@@ -1,6 +1,6 @@
 use borrow.Author.Needs.{needs}
 use mathlib.Core.Path.{ap, _∙_}
-use Rattle.aes_cmac.specs.Words.{rotated}
+use Rattle.aes_cmac.specs.ByTable.{rotated}
 use Rattle.aes_cmac.specs.ByTable.{columnBy}
 use Rattle.aes_cmac.proofs.WordBytes.{bytes-xor-of}
 use Rattle.aes_cmac.proofs.aes.column.Statement.{statement}

@@ -5,7 +5,7 @@ use Rattle.journey_check.proofs.hops.mac_fits.Tie as tie
 
 returns : tie.Need-returns
 returns c =
-    let info-timestamp = c .before .before .before .before .before .before .before .info-timestamp in
+    let timestamp = c .before .before .before .before .before .before .before .timestamp in
     let exp-time = c .before .before .before .before .before .before .exp-time in
     let cons-ingress = c .before .before .before .before .before .cons-ingress in
     let cons-egress = c .before .before .before .before .cons-egress in
@@ -16,7 +16,7 @@ returns c =
     let calculate-hop-mac-with = c .before .before .before .calculate-hop-mac-with in
     let mac-number = c .before .before .mac-number in
     rw (
-      ← info-timestamp .ensures,
+      ← timestamp .ensures,
       ← exp-time .ensures,
       ← cons-ingress .ensures,
       ← cons-egress .ensures,

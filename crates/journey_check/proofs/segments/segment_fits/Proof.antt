@@ -18,7 +18,7 @@ abbrev μ-loop : tie.MeasureT-loop
 returns : tie.Need-returns Inv-loop μ-loop
 returns c =
     let info-field = c .before .before .info-field in
-    segment-early _ _ _ _ _ _ (c .before .info-timestamp .ensures ∙ ap timestamp (info-field .ensures)) (c .if1 .taken)
+    segment-early _ _ _ _ _ _ (c .before .timestamp .ensures ∙ ap timestamp (info-field .ensures)) (c .if1 .taken)
 
 loop-holds : tie.Need-loop-holds Inv-loop μ-loop
 loop-holds c =
@@ -39,12 +39,12 @@ hop-fits-requires c κs =
 returns-2 : tie.Need-returns-2 Inv-loop μ-loop
 returns-2 c =
     let loop = c .before .before .before .before .loop in
-    let info-timestamp = c .before .before .before .before .before .before .before .before .info-timestamp in
+    let read = c .before .before .before .before .before .before .before .before .timestamp in
     let info-field = c .before .before .before .before .before .before .before .before .before .info-field in
     let if1 = c .before .before .before .before .before .before .before .if1 in
     let hop-count = c .before .before .before .before .before .before .hop-count in
     let walked = loop .inv in
-    segment-begun _ _ _ _ _ _ (info-timestamp .ensures ∙ ap timestamp (info-field .ensures)) (if1 .left)
+    segment-begun _ _ _ _ _ _ (read .ensures ∙ ap timestamp (info-field .ensures)) (if1 .left)
     (asked-no (walked .asked) (omega (arith, hop-count .ensures .0)) (rw (walked .reached) at (c .before .hop-fits .ensures))
     (c .if2 .taken))
 
@@ -65,11 +65,11 @@ loop-again c =
 
 returns-3 : tie.Need-returns-3 Inv-loop μ-loop
 returns-3 c =
-    let info-timestamp = c .before .before .before .before .before .info-timestamp in
+    let read = c .before .before .before .before .before .timestamp in
     let info-field = c .before .before .before .before .before .before .info-field in
     let if1 = c .before .before .before .before .if1 in
     let hop-count = c .before .before .before .hop-count in
-    segment-begun _ _ _ _ _ _ (info-timestamp .ensures ∙ ap timestamp (info-field .ensures)) (if1 .left)
+    segment-begun _ _ _ _ _ _ (read .ensures ∙ ap timestamp (info-field .ensures)) (if1 .left)
     (asked-all (c .before .loop .inv .asked) (omega (arith, hop-count .ensures .0)))
 
 pub segment-fits-spec : {M : Type 1} → statement M

@@ -14,28 +14,28 @@ returns c = rw (sym (c .before .before .interface-fits .ensures) ∙ not-true _ 
 returns-2 : tie.Need-returns-2
 unfolding firstNo
 returns-2 c =
-    rw (sym (c .before .before .before .before .interface-fits .ensures) ∙ not-false _ (c .before .before .before .if1 .left), lt-leb _ _ (rw (c .before .before .info-timestamp .ensures) at (c .if2 .taken)))
+    rw (sym (c .before .before .before .before .interface-fits .ensures) ∙ not-false _ (c .before .before .before .if1 .left), lt-leb _ _ (rw (c .before .before .timestamp .ensures) at (c .if2 .taken)))
 
 returns-3 : tie.Need-returns-3
 unfolding firstNo
 returns-3 c =
-    rw (sym (c .before .before .before .before .before .before .before .interface-fits .ensures) ∙ not-false _ (c .before .before .before .before .before .before .if1 .left), le-leb _ _ (rw (c .before .before .before .before .before .info-timestamp .ensures) at (c .before .before .before .if2 .left)), lt-leb _ _ (rw (c .before .before .expiry-timestamp .ensures) at (c .if3 .taken)))
+    rw (sym (c .before .before .before .before .before .before .before .interface-fits .ensures) ∙ not-false _ (c .before .before .before .before .before .before .if1 .left), le-leb _ _ (rw (c .before .before .before .before .before .timestamp .ensures) at (c .before .before .before .if2 .left)), lt-leb _ _ (rw (c .before .before .expiry-timestamp .ensures) at (c .if3 .taken)))
 
 returns-4 : tie.Need-returns-4
 unfolding firstNo
 returns-4 c =
-    rw (sym (c .before .before .before .before .before .before .before .before .interface-fits .ensures) ∙ not-false _ (c .before .before .before .before .before .before .before .if1 .left), le-leb _ _ (rw (c .before .before .before .before .before .before .info-timestamp .ensures) at (c .before .before .before .before .if2 .left)), le-leb _ _ (rw (c .before .before .before .expiry-timestamp .ensures) at (c .before .if3 .left)), c .if4 .taken)
+    rw (sym (c .before .before .before .before .before .before .before .before .interface-fits .ensures) ∙ not-false _ (c .before .before .before .before .before .before .before .if1 .left), le-leb _ _ (rw (c .before .before .before .before .before .before .timestamp .ensures) at (c .before .before .before .before .if2 .left)), le-leb _ _ (rw (c .before .before .before .expiry-timestamp .ensures) at (c .before .if3 .left)), c .if4 .taken)
 
 returns-5 : tie.Need-returns-5
 unfolding firstNo
 returns-5 c =
-    rw (sym (c .before .before .before .before .before .before .before .before .before .before .before .before .interface-fits .ensures) ∙ not-false _ (c .before .before .before .before .before .before .before .before .before .before .before .if1 .left), le-leb _ _ (rw (c .before .before .before .before .before .before .before .before .before .before .info-timestamp .ensures) at (c .before .before .before .before .before .before .before .before .if2 .left)), le-leb _ _ (rw (c .before .before .before .before .before .before .before .expiry-timestamp .ensures) at (c .before .before .before .before .before .if3 .left)), c .before .before .before .before .if4 .left, eq-eqb _ _ (sym (c .before .before .before .expected-mac .ensures) ∙ c .if5 .taken ∙ c .before .mac-number .ensures ∙ ap macNumber (c .before .before .mac .ensures)))
+    rw (sym (c .before .before .before .before .before .before .before .before .before .before .before .before .interface-fits .ensures) ∙ not-false _ (c .before .before .before .before .before .before .before .before .before .before .before .if1 .left), le-leb _ _ (rw (c .before .before .before .before .before .before .before .before .before .before .timestamp .ensures) at (c .before .before .before .before .before .before .before .before .if2 .left)), le-leb _ _ (rw (c .before .before .before .before .before .before .before .expiry-timestamp .ensures) at (c .before .before .before .before .before .if3 .left)), c .before .before .before .before .if4 .left, eq-eqb _ _ (sym (c .before .before .before .expected-mac .ensures) ∙ c .if5 .taken ∙ c .before .mac-number .ensures ∙ ap macNumber (c .before .before .mac .ensures)))
 
 returns-6 : tie.Need-returns-6
 unfolding firstNo
 returns-6 c =
     let actual = c .before .mac-number .ensures ∙ ap macNumber (c .before .before .mac .ensures) in
-    rw (sym (c .before .before .before .before .before .before .before .before .before .before .before .before .interface-fits .ensures) ∙ not-false _ (c .before .before .before .before .before .before .before .before .before .before .before .if1 .left), le-leb _ _ (rw (c .before .before .before .before .before .before .before .before .before .before .info-timestamp .ensures) at (c .before .before .before .before .before .before .before .before .if2 .left)), le-leb _ _ (rw (c .before .before .before .before .before .before .before .expiry-timestamp .ensures) at (c .before .before .before .before .before .if3 .left)), c .before .before .before .before .if4 .left, ← c .before .before .before .expected-mac .ensures, ← actual, ne-eqb _ _ (c .if5 .left))
+    rw (sym (c .before .before .before .before .before .before .before .before .before .before .before .before .interface-fits .ensures) ∙ not-false _ (c .before .before .before .before .before .before .before .before .before .before .before .if1 .left), le-leb _ _ (rw (c .before .before .before .before .before .before .before .before .before .before .timestamp .ensures) at (c .before .before .before .before .before .before .before .before .if2 .left)), le-leb _ _ (rw (c .before .before .before .before .before .before .before .expiry-timestamp .ensures) at (c .before .before .before .before .before .if3 .left)), c .before .before .before .before .if4 .left, ← c .before .before .before .expected-mac .ensures, ← actual, ne-eqb _ _ (c .if5 .left))
 
 pub validate-hop-spec : {M : Type 1} → statement M
 validate-hop-spec =
