@@ -239,21 +239,33 @@ module _ (ids states : List ℕ) (mac : MacFunction) (interface time : ℕ) (unc
   unfolding ingress
   went-on-bytes = rw (w .asked, w .placed)
 
+  pub egress-placed : egress ids states mac (atEgress out time unchecked) after
+      ≡ asks Refused (firstNo (egressPlace after)) after (record { answer = egressAction after; bytes = egressMove after })
+  unfolding egress
+  egress-placed = rw (before-again, ready .passes)
+
   pub egress-after : egress ids states mac (atEgress out time unchecked) after
       ≡ asks Refused (firstNo (insideQuestions after)) after (record { answer = egressAction after; bytes = egressMove after })
-  unfolding egress
   egress-after =
       let here : currHf after < hops after = rw (hops-kept (held .kept)) (ready .among) in
       let inside : currInf after < infos after = rw (infos-kept (held .kept)) (ready .inside) in
-      rw (before-again, ready .passes, place-inside after here inside)
+      rw (egress-placed, place-inside after here inside)
 
--- egress, on the bytes that an ingress left which went on
-pub egress-inside : (ids states : List ℕ) (mac : MacFunction) (interface time : ℕ) (unchecked : Bool) (path : List ℕ) (out : ℕ)
-    → ingress ids states mac (atIngress interface time unchecked) path .answer ≡ ContinueEgress out
-    → let left = ingress ids states mac (atIngress interface time unchecked) path .bytes in
-    egress ids states mac (atEgress out time unchecked) left
-    ≡ asks Refused (firstNo (insideQuestions left)) left (record { answer = egressAction left; bytes = egressMove left })
-egress-inside ids states mac interface time unchecked path out e =
-    let w = went-on ids states mac interface time unchecked path out e in
-    rw (went-on-bytes ids states mac interface time unchecked path out w)
-    (egress-after ids states mac interface time unchecked path out w)
+-- egress, on the bytes that an ingress left which went on: where the path stands is all that it asks, and of that what is left
+module _ (ids states : List ℕ) (mac : MacFunction) (interface time : ℕ) (unchecked : Bool) (path : List ℕ) (out : ℕ)
+    (e : ingress ids states mac (atIngress interface time unchecked) path .answer ≡ ContinueEgress out) where
+  abbrev left : List ℕ
+  left = ingress ids states mac (atIngress interface time unchecked) path .bytes
+
+  abbrev on : WentOn ids states mac interface time unchecked path out
+  on = went-on ids states mac interface time unchecked path out e
+
+  pub egress-inside-placed : egress ids states mac (atEgress out time unchecked) left
+      ≡ asks Refused (firstNo (egressPlace left)) left (record { answer = egressAction left; bytes = egressMove left })
+  egress-inside-placed =
+      rw (went-on-bytes ids states mac interface time unchecked path out on) (egress-placed ids states mac interface time unchecked path out on)
+
+  pub egress-inside : egress ids states mac (atEgress out time unchecked) left
+      ≡ asks Refused (firstNo (insideQuestions left)) left (record { answer = egressAction left; bytes = egressMove left })
+  egress-inside =
+      rw (went-on-bytes ids states mac interface time unchecked path out on) (egress-after ids states mac interface time unchecked path out on)

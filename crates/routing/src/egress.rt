@@ -18,6 +18,9 @@ use validator::check::StandardValidator;
 ghost use mathlib.Core.Path.{_≡_};
 ghost use Rattle.validator.specs.Questions.{firstNo};
 ghost use Rattle.validator.specs.Check.{scheduleMac};
+ghost use Rattle.validator.specs.declared.answer.StepAnswer.the-variants.{Refused};
+ghost use Rattle.routing.specs.Outcome.{asks};
+ghost use Rattle.routing.specs.Place.{egressPlace};
 ghost use Rattle.routing.specs.Egress.{egressQuestions, egressMove, egressAction, decided, egress};
 
 // Questions 19, 10, 11 and 12.
@@ -111,6 +114,22 @@ pub fn egress_with(
         return StepAnswer::Refused(why);
     }
     let answer = decide_egress(table, round_keys, k1, at, path);
+    move_egress(path);
+    answer
+}
+
+// The egress half inside the whole step. An ingress that went on has had a yes to 1 to 4 and to 10 to 12 of this hop, and 19 is asked of a
+// call alone.
+pub fn egress_inside(path: &mut [u8]) -> StepAnswer
+    ensures { λ r. ⌜ r ≡ asks Refused (firstNo (egressPlace (now (path .entry)))) (now (path .entry))
+        (record { answer = egressAction (now (path .entry)); bytes = egressMove (now (path .entry)) }) .answer ⌝ }
+    ensures { λ _. ⌜ now (path .exit) ≡ asks Refused (firstNo (egressPlace (now (path .entry)))) (now (path .entry))
+        (record { answer = egressAction (now (path .entry)); bytes = egressMove (now (path .entry)) }) .bytes ⌝ }
+{
+    if let Validation::Invalid(why) = place::locate_egress(path) {
+        return StepAnswer::Refused(why);
+    }
+    let answer = egress_action(path);
     move_egress(path);
     answer
 }

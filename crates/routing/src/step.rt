@@ -20,11 +20,10 @@ ghost use mathlib.Core.Path.{_≡_};
 ghost use mathlib.Core.Bool.{true};
 ghost use mathlib.Core.List.{[]};
 ghost use Rattle.validator.specs.Questions.{firstNo};
-ghost use Rattle.validator.specs.Check.{scheduleMac};
 ghost use Rattle.interface_table.specs.Table.{stateOf};
 ghost use Rattle.routing.specs.Ingress.{ingress};
 ghost use Rattle.routing.specs.Egress.{egress};
-ghost use Rattle.routing.specs.Step.{keyMac, atIngress, atEgress, leavingQuestions, finished, leave, step};
+ghost use Rattle.routing.specs.Step.{keyMac, atIngress, atEgress, leavingQuestions, finished, step};
 
 // ---- the halves
 
@@ -155,26 +154,6 @@ fn validate_leaving(ids: &[u16], states: &[u8], out: u16, path: &[u8]) -> Valida
     })
 }
 
-fn leave_with(
-    ids: &[u16],
-    states: &[u8],
-    table: &[u8; 1024],
-    round_keys: [[u8; 16]; 11],
-    k1: [u8; 16],
-    at: StandardValidator,
-    path: &mut [u8],
-) -> StepAnswer
-    ensures { λ r. ⌜ r ≡ leave (now (ids .entry)) (now (states .entry))
-        (scheduleMac (now (table .entry)) «round_keys» k1) at (now (path .entry)) .answer ⌝ }
-    ensures { λ _. ⌜ now (path .exit) ≡ leave (now (ids .entry)) (now (states .entry))
-        (scheduleMac (now (table .entry)) «round_keys» k1) at (now (path .entry)) .bytes ⌝ }
-{
-    if let Validation::Invalid(why) = validate_leaving(ids, states, at.interface, path) {
-        return StepAnswer::Refused(why);
-    }
-    egress::egress_with(ids, states, table, round_keys, k1, at, path)
-}
-
 // The answer of an ingress that does not go on.
 fn finish(next_action: IngressNextAction) -> StepAnswer
     ensures { λ r. ⌜ r ≡ finished «next_action» ⌝ }
@@ -194,71 +173,6 @@ fn finish(next_action: IngressNextAction) -> StepAnswer
 
 // ---- the whole step
 
-// With a schedule made before.
-pub fn handle_with(
-    ids: &[u16],
-    states: &[u8],
-    table: &[u8; 1024],
-    round_keys: [[u8; 16]; 11],
-    k1: [u8; 16],
-    path: &mut [u8],
-    ingress_interface_id: u16,
-    time: u32,
-    ignore_macs: bool,
-) -> StepAnswer
-    ensures { λ r. ⌜ r ≡ step (now (ids .entry)) (now (states .entry)) (scheduleMac (now (table .entry)) «round_keys» k1)
-        «ingress_interface_id» time «ignore_macs» (now (path .entry)) .answer ⌝ }
-    ensures { λ _. ⌜ now (path .exit) ≡ step (now (ids .entry)) (now (states .entry)) (scheduleMac (now (table .entry)) «round_keys» k1)
-        «ingress_interface_id» time «ignore_macs» (now (path .entry)) .bytes ⌝ }
-{
-    let at = StandardValidator {
-        ingress: true,
-        interface: ingress_interface_id,
-        time,
-        unchecked: ignore_macs,
-    };
-    let next_action = ingress::ingress_with(ids, states, table, round_keys, k1, at, path);
-    let IngressNextAction::ContinueEgress {
-        egress_interface_id,
-    } = next_action
-    else {
-        return finish(next_action);
-    };
-    let leaving = StandardValidator {
-        ingress: false,
-        interface: egress_interface_id,
-        time,
-        unchecked: ignore_macs,
-    };
-    leave_with(ids, states, table, round_keys, k1, leaving, path)
-}
-
-fn handle_unchecked(
-    ids: &[u16],
-    states: &[u8],
-    path: &mut [u8],
-    interface: u16,
-    time: u32,
-) -> StepAnswer
-    ensures { λ r. ⌜ r ≡ step (now (ids .entry)) (now (states .entry)) (keyMac []) interface time true (now (path .entry)) .answer ⌝ }
-    ensures { λ _. ⌜ now (path .exit) ≡ step (now (ids .entry)) (now (states .entry)) (keyMac []) interface time true
-        (now (path .entry)) .bytes ⌝ }
-{
-    let table = [0; 1024];
-    let answer = handle_with(
-        ids,
-        states,
-        &table,
-        [[0; 16]; 11],
-        [0; 16],
-        path,
-        interface,
-        time,
-        true,
-    );
-    answer
-}
-
 pub fn handle_standard_path(
     ids: &[u16],
     states: &[u8],
@@ -273,21 +187,23 @@ pub fn handle_standard_path(
     ensures { λ _. ⌜ now (path .exit) ≡ step (now (ids .entry)) (now (states .entry)) (keyMac (now («forwarding_key» .entry)))
         «ingress_interface_id» time «ignore_macs» (now (path .entry)) .bytes ⌝ }
 {
-    if ignore_macs {
-        return handle_unchecked(ids, states, path, ingress_interface_id, time);
-    }
-    let table = aes::round_table();
-    let round_keys = aes::expand_key(*forwarding_key);
-    let k1 = cmac::subkey_with(&table, round_keys);
-    handle_with(
+    let next_action = standard_path_ingress(
         ids,
         states,
-        &table,
-        round_keys,
-        k1,
         path,
         ingress_interface_id,
         time,
-        false,
-    )
+        forwarding_key,
+        ignore_macs,
+    );
+    let IngressNextAction::ContinueEgress {
+        egress_interface_id,
+    } = next_action
+    else {
+        return finish(next_action);
+    };
+    if let Validation::Invalid(why) = validate_leaving(ids, states, egress_interface_id, path) {
+        return StepAnswer::Refused(why);
+    }
+    egress::egress_inside(path)
 }

@@ -1,19 +1,22 @@
 use borrow.Author.Needs.{needs}
-use mathlib.Core.Path.{ap, _∙_}
-use mathlib.Core.List.{[]}
-use Rattle.validator.specs.declared.answer.StepAnswer.{StepAnswer}
-use Rattle.routing.specs.Outcome.{Outcome}
-use Rattle.routing.specs.Step.{keyMac}
-use Rattle.routing.proofs.Steps.{schedule-law}
-use Rattle.routing.proofs.Unchecked.{step-unchecked}
+use mathlib.Core.Path.{refl, sym, _∙_}
+use Rattle.routing.specs.Step.{step, stepFrom}
+use Rattle.routing.proofs.Steps.{leaves, stays}
+use Rattle.routing.proofs.Inside.{egress-inside-placed}
 use Rattle.routing.proofs.step.handle_standard_path.Statement.{statement}
 use Rattle.routing.proofs.step.handle_standard_path.Tie as tie
 
 returns : tie.Need-returns
-returns c = rw (c .before .before .before .before .if1 .taken) (c .before .before .handle-unchecked .ensures .0 ∙ ap (λ (o : Outcome StepAnswer). o .answer) (step-unchecked _ _ (keyMac []) _ _ _ _), c .before .before .handle-unchecked .ensures .1 ∙ ap (λ (o : Outcome StepAnswer). o .bytes) (step-unchecked _ _ (keyMac []) _ _ _ _))
+unfolding step
+returns c = (rw (← c .before .before .before .before .standard-path-ingress .ensures .0, ← c .before .before .before .before .standard-path-ingress .ensures .1) (c .finish .ensures ∙ leaves _ _ _ _ _ _ _ (c .before .match .keys2)), rw (← c .before .before .before .before .standard-path-ingress .ensures .0, ← c .before .before .before .before .standard-path-ingress .ensures .1) (stays _ _ _ _ _ _ _ (c .before .match .keys2)))
 
 returns-2 : tie.Need-returns-2
-returns-2 c = rw (c .before .before .before .before .before .before .before .before .before .before .if1 .left, ← schedule-law _ (c .before .before .before .before .before .before .before .before .before .round-table .ensures) (c .before .before .before .before .before .before .before .expand-key .ensures) (c .before .before .before .before .before .subkey-with .ensures)) (c .before .before .handle-with .ensures .0, c .before .before .handle-with .ensures .1)
+unfolding step stepFrom
+returns-2 c = rw (← c .before .before .before .before .before .before .before .before .before .before .standard-path-ingress .ensures .0, c .before .before .before .before .before .before .next-action .given .1, ← c .before .before .before .before .before .before .before .before .before .before .standard-path-ingress .ensures .1, ← c .before .before .before .validate-leaving .ensures, c .before .why .given .1) (refl, refl)
+
+returns-3 : tie.Need-returns-3
+unfolding step stepFrom
+returns-3 c = rw (← c .before .before .before .before .before .before .before .before .before .before .before .before .before .standard-path-ingress .ensures .0, c .before .before .before .before .before .before .before .before .before .next-action .given .1, egress-inside-placed _ _ _ _ _ _ _ _ (sym (c .before .before .before .before .before .before .before .before .before .before .before .before .before .standard-path-ingress .ensures .0) ∙ c .before .before .before .before .before .before .before .before .before .next-action .given .1), ← c .before .before .before .before .before .before .before .before .before .before .before .before .before .standard-path-ingress .ensures .1, ← c .before .before .before .before .before .before .validate-leaving .ensures, c .before .before .before .before .enum-told .given .1) (c .before .before .egress-inside .ensures .0, c .before .before .egress-inside .ensures .1)
 
 pub handle-standard-path-spec : {M : Type 1} → statement M
 handle-standard-path-spec =
@@ -21,10 +24,14 @@ handle-standard-path-spec =
     (tie.spec
     (λ c κs. search needs)
     (λ c. search needs)
-    returns
-    (λ c κs. search needs)
-    (λ c κs. search needs)
-    (λ c κs. search needs)
     (λ c κs. search needs)
     (λ c. search needs)
-    returns-2)
+    returns
+    (λ c κs. search needs)
+    (λ c. search needs)
+    (λ c. search needs)
+    returns-2
+    (λ c. search needs)
+    (λ c κs. search needs)
+    (λ c. search needs)
+    returns-3)
