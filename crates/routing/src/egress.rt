@@ -8,6 +8,8 @@
 // Licensed under the Apache License, Version 2.0: see NOTICE.
 use crate::ingress;
 use crate::place;
+use aes_cmac::aes;
+use aes_cmac::cmac;
 use standard_path::moves;
 use standard_path::view;
 use validator::answer::AsRoutingAction;
@@ -15,34 +17,34 @@ use validator::answer::LocalAsRoutingAction;
 use validator::answer::StepAnswer;
 use validator::answer::Validation;
 use validator::check::StandardValidator;
+use validator::check::validate_mac;
 ghost use mathlib.Core.Path.{_≡_};
 ghost use Rattle.validator.specs.Questions.{firstNo};
-ghost use Rattle.validator.specs.Check.{scheduleMac};
 ghost use Rattle.validator.specs.declared.answer.StepAnswer.the-variants.{Refused};
 ghost use Rattle.routing.specs.Outcome.{asks};
 ghost use Rattle.routing.specs.Place.{egressPlace};
 ghost use Rattle.routing.specs.Egress.{egressQuestions, egressMove, egressAction, decided, egress};
+ghost use Rattle.routing.specs.Step.{keyMac};
 
 // Questions 19, 10, 11 and 12.
-fn validate_egress(
-    table: &[u8; 1024],
-    round_keys: [[u8; 16]; 11],
-    k1: [u8; 16],
-    at: StandardValidator,
-    path: &[u8],
-) -> Validation
-    ensures { λ r. ⌜ r ≡ firstNo (egressQuestions (scheduleMac (now (table .entry)) «round_keys» k1) at (now (path .entry))) ⌝ }
+fn validate_egress(forwarding_key: &[u8; 16], at: StandardValidator, path: &[u8]) -> Validation
+    ensures { λ r. ⌜ r ≡ firstNo (egressQuestions (keyMac (now («forwarding_key» .entry))) at (now (path .entry))) ⌝ }
 {
+    let hop_index = view::curr_hop_field_idx(path);
+    let hop = view::curr_hop_field(path);
     let info = view::curr_info_field(path);
-    at.validate_hop(
-        table,
-        round_keys,
-        k1,
-        view::curr_hop_field_idx(path),
-        view::curr_hop_field(path),
-        info,
-        view::segment_id(info),
-    )
+    let here = at.validate_hop(hop_index, hop, info);
+    let Validation::Valid = here else {
+        return here;
+    };
+    if at.unchecked {
+        return Validation::Valid;
+    }
+    let table = aes::round_table();
+    let round_keys = aes::expand_key(*forwarding_key);
+    let k1 = cmac::subkey_with(&table, round_keys);
+    let segment_id = view::segment_id(info);
+    validate_mac(&table, round_keys, k1, hop_index, hop, info, segment_id)
 }
 
 fn egress_action(path: &[u8]) -> StepAnswer
@@ -76,36 +78,28 @@ fn move_egress(path: &mut [u8])
 }
 
 // The answer, from the path as it came.
-fn decide_egress(
-    table: &[u8; 1024],
-    round_keys: [[u8; 16]; 11],
-    k1: [u8; 16],
-    at: StandardValidator,
-    path: &[u8],
-) -> StepAnswer
-    ensures { λ r. ⌜ r ≡ decided (firstNo (egressQuestions (scheduleMac (now (table .entry)) «round_keys» k1) at (now (path .entry))))
+fn decide_egress(forwarding_key: &[u8; 16], at: StandardValidator, path: &[u8]) -> StepAnswer
+    ensures { λ r. ⌜ r ≡ decided (firstNo (egressQuestions (keyMac (now («forwarding_key» .entry))) at (now (path .entry))))
         (egressAction (now (path .entry))) ⌝ }
 {
-    match validate_egress(table, round_keys, k1, at, path) {
+    match validate_egress(forwarding_key, at, path) {
         Validation::Valid => egress_action(path),
         Validation::Invalid(why) => StepAnswer::Refused(why),
     }
 }
 
-// The egress half, with a schedule made before.
-pub fn egress_with(
+// The egress half.
+pub fn advance_egress(
     ids: &[u16],
     states: &[u8],
-    table: &[u8; 1024],
-    round_keys: [[u8; 16]; 11],
-    k1: [u8; 16],
+    forwarding_key: &[u8; 16],
     at: StandardValidator,
     path: &mut [u8],
 ) -> StepAnswer
     ensures { λ r. ⌜ r ≡ egress (now (ids .entry)) (now (states .entry))
-        (scheduleMac (now (table .entry)) «round_keys» k1) at (now (path .entry)) .answer ⌝ }
+        (keyMac (now («forwarding_key» .entry))) at (now (path .entry)) .answer ⌝ }
     ensures { λ _. ⌜ now (path .exit) ≡ egress (now (ids .entry)) (now (states .entry))
-        (scheduleMac (now (table .entry)) «round_keys» k1) at (now (path .entry)) .bytes ⌝ }
+        (keyMac (now («forwarding_key» .entry))) at (now (path .entry)) .bytes ⌝ }
 {
     if let Validation::Invalid(why) = place::check_before(ids, states, path) {
         return StepAnswer::Refused(why);
@@ -113,7 +107,7 @@ pub fn egress_with(
     if let Validation::Invalid(why) = place::locate_egress(path) {
         return StepAnswer::Refused(why);
     }
-    let answer = decide_egress(table, round_keys, k1, at, path);
+    let answer = decide_egress(forwarding_key, at, path);
     move_egress(path);
     answer
 }

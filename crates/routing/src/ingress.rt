@@ -8,6 +8,8 @@
 // Licensed under the Apache License, Version 2.0: see NOTICE.
 use crate::place;
 use crate::place::Located;
+use aes_cmac::aes;
+use aes_cmac::cmac;
 use standard_path::mac::mac_beta_step;
 use standard_path::moves;
 use standard_path::view;
@@ -16,15 +18,17 @@ use validator::answer::IngressNextAction;
 use validator::answer::LocalAsRoutingAction;
 use validator::answer::Validation;
 use validator::check::StandardValidator;
+use validator::check::validate_mac;
 use validator::check::validate_segment_change;
 ghost use mathlib.Core.Path.{_≡_};
-ghost use mathlib.Core.Bool.{not, _&&_};
-ghost use lib.Dec.{eqb};
+ghost use mathlib.Core.Bool.{false};
+ghost use lib.ListN.{take, drop};
 ghost use Rattle.validator.specs.Questions.{firstNo};
-ghost use Rattle.validator.specs.Check.{scheduleMac};
+ghost use Rattle.validator.specs.Check.{MacFunction};
 ghost use Rattle.routing.specs.Ingress.{nextHop, nextInfo, steppedSegId, stepped, stepsAtIngress, ingressSegId};
 ghost use Rattle.routing.specs.Ingress.{nextQuestions, ingressQuestions};
 ghost use Rattle.routing.specs.Ingress.{ingressFields, ingressMove, alertsAtIngress, leaving, ingressAction, decided, ingress};
+ghost use Rattle.routing.specs.Step.{keyMac};
 
 // The hop field after the current one, and the info field after the current one.
 fn next_hop_field(path: &[u8]) -> &[u8]
@@ -68,18 +72,10 @@ fn ingress_segment_id(path: &[u8], interface: u16) -> u16
     view::segment_id(view::curr_info_field(path))
 }
 
-// Questions 13 to 16, and 9 to 12 for the next hop.
-fn validate_next(
-    ids: &[u16],
-    states: &[u8],
-    table: &[u8; 1024],
-    round_keys: [[u8; 16]; 11],
-    k1: [u8; 16],
-    at: StandardValidator,
-    path: &[u8],
-) -> Validation
-    ensures { λ r. ⌜ r ≡ firstNo (nextQuestions (now (ids .entry)) (now (states .entry))
-        (scheduleMac (now (table .entry)) «round_keys» k1) at (now (path .entry))) ⌝ }
+// Questions 13 to 16, and 9 to 11 for the next hop.
+fn validate_next(ids: &[u16], states: &[u8], at: StandardValidator, path: &[u8]) -> Validation
+    ensures { λ r. ⌜ ((mac : MacFunction) → r ≡ firstNo (take 8 (nextQuestions (now (ids .entry)) (now (states .entry)) mac at
+        (now (path .entry))))) ⌝ }
 {
     let hop_index = view::curr_hop_field_idx(path);
     let next_hop = next_hop_field(path);
@@ -96,13 +92,53 @@ fn validate_next(
     let Validation::Valid = change else {
         return change;
     };
+    at.validate_hop(hop_index + 1, next_hop, next_info)
+}
+
+// From question 12 on, where MACs are checked: one key schedule serves both hops.
+fn validate_checked(
+    ids: &[u16],
+    states: &[u8],
+    forwarding_key: &[u8; 16],
+    at: StandardValidator,
+    path: &[u8],
+    change: bool,
+) -> Validation
+    requires { ⌜ at .unchecked ≡ false ⌝ }
+    ensures { λ r. ⌜ r ≡ firstNo (drop 3 (ingressQuestions (now (ids .entry)) (now (states .entry)) (keyMac (now («forwarding_key» .entry)))
+        at (now (path .entry)) change)) ⌝ }
+{
+    let table = aes::round_table();
+    let round_keys = aes::expand_key(*forwarding_key);
+    let k1 = cmac::subkey_with(&table, round_keys);
+    let hop_index = view::curr_hop_field_idx(path);
+    let here = validate_mac(
+        &table,
+        round_keys,
+        k1,
+        hop_index,
+        view::curr_hop_field(path),
+        view::curr_info_field(path),
+        ingress_segment_id(path, at.interface),
+    );
+    let Validation::Valid = here else {
+        return here;
+    };
+    if !change {
+        return Validation::Valid;
+    }
+    let next = validate_next(ids, states, at, path);
+    let Validation::Valid = next else {
+        return next;
+    };
+    let next_info = next_info_field(path);
     let segment_id = view::segment_id(next_info);
-    at.validate_hop(
-        table,
+    validate_mac(
+        &table,
         round_keys,
         k1,
         hop_index + 1,
-        next_hop,
+        next_hop_field(path),
         next_info,
         segment_id,
     )
@@ -112,30 +148,27 @@ fn validate_next(
 fn validate_ingress(
     ids: &[u16],
     states: &[u8],
-    table: &[u8; 1024],
-    round_keys: [[u8; 16]; 11],
-    k1: [u8; 16],
+    forwarding_key: &[u8; 16],
     at: StandardValidator,
     path: &[u8],
     change: bool,
 ) -> Validation
-    ensures { λ r. ⌜ r ≡ firstNo (ingressQuestions (now (ids .entry)) (now (states .entry))
-        (scheduleMac (now (table .entry)) «round_keys» k1) at (now (path .entry)) change) ⌝ }
+    ensures { λ r. ⌜ r ≡ firstNo (ingressQuestions (now (ids .entry)) (now (states .entry)) (keyMac (now («forwarding_key» .entry)))
+        at (now (path .entry)) change) ⌝ }
 {
     let here = at.validate_hop(
-        table,
-        round_keys,
-        k1,
         view::curr_hop_field_idx(path),
         view::curr_hop_field(path),
         view::curr_info_field(path),
-        ingress_segment_id(path, at.interface),
     );
     let Validation::Valid = here else {
         return here;
     };
+    if !at.unchecked {
+        return validate_checked(ids, states, forwarding_key, at, path, change);
+    }
     if change {
-        return validate_next(ids, states, table, round_keys, k1, at, path);
+        return validate_next(ids, states, at, path);
     }
     Validation::Valid
 }
@@ -222,19 +255,17 @@ fn move_ingress(path: &mut [u8], interface: u16, change: bool)
 fn decide_ingress(
     ids: &[u16],
     states: &[u8],
-    table: &[u8; 1024],
-    round_keys: [[u8; 16]; 11],
-    k1: [u8; 16],
+    forwarding_key: &[u8; 16],
     at: StandardValidator,
     path: &[u8],
     change: bool,
     last: bool,
 ) -> IngressNextAction
     ensures { λ r. ⌜ r ≡ decided (firstNo (ingressQuestions (now (ids .entry)) (now (states .entry))
-        (scheduleMac (now (table .entry)) «round_keys» k1) at (now (path .entry)) change))
+        (keyMac (now («forwarding_key» .entry))) at (now (path .entry)) change))
         (ingressAction (now (path .entry)) (at .interface) change last) ⌝ }
 {
-    match validate_ingress(ids, states, table, round_keys, k1, at, path, change) {
+    match validate_ingress(ids, states, forwarding_key, at, path, change) {
         Validation::Valid => ingress_action(path, at.interface, change, last),
         Validation::Invalid(why) => IngressNextAction::Refused(why),
     }
@@ -243,38 +274,34 @@ fn decide_ingress(
 fn ingress_here(
     ids: &[u16],
     states: &[u8],
-    table: &[u8; 1024],
-    round_keys: [[u8; 16]; 11],
-    k1: [u8; 16],
+    forwarding_key: &[u8; 16],
     at: StandardValidator,
     path: &mut [u8],
     change: bool,
     last: bool,
 ) -> IngressNextAction
     ensures { λ r. ⌜ r ≡ decided (firstNo (ingressQuestions (now (ids .entry)) (now (states .entry))
-        (scheduleMac (now (table .entry)) «round_keys» k1) at (now (path .entry)) change))
+        (keyMac (now («forwarding_key» .entry))) at (now (path .entry)) change))
         (ingressAction (now (path .entry)) (at .interface) change last) ⌝ }
     ensures { λ _. ⌜ now (path .exit) ≡ ingressMove (now (path .entry)) (at .interface) change ⌝ }
 {
-    let answer = decide_ingress(ids, states, table, round_keys, k1, at, path, change, last);
+    let answer = decide_ingress(ids, states, forwarding_key, at, path, change, last);
     move_ingress(path, at.interface, change);
     answer
 }
 
-// The ingress half, with a schedule made before.
-pub fn ingress_with(
+// The ingress half.
+pub fn advance_ingress(
     ids: &[u16],
     states: &[u8],
-    table: &[u8; 1024],
-    round_keys: [[u8; 16]; 11],
-    k1: [u8; 16],
+    forwarding_key: &[u8; 16],
     at: StandardValidator,
     path: &mut [u8],
 ) -> IngressNextAction
     ensures { λ r. ⌜ r ≡ ingress (now (ids .entry)) (now (states .entry))
-        (scheduleMac (now (table .entry)) «round_keys» k1) at (now (path .entry)) .answer ⌝ }
+        (keyMac (now («forwarding_key» .entry))) at (now (path .entry)) .answer ⌝ }
     ensures { λ _. ⌜ now (path .exit) ≡ ingress (now (ids .entry)) (now (states .entry))
-        (scheduleMac (now (table .entry)) «round_keys» k1) at (now (path .entry)) .bytes ⌝ }
+        (keyMac (now («forwarding_key» .entry))) at (now (path .entry)) .bytes ⌝ }
 {
     if let Validation::Invalid(why) = place::check_before(ids, states, path) {
         return IngressNextAction::Refused(why);
@@ -284,9 +311,7 @@ pub fn ingress_with(
         Located::Here { change, last } => ingress_here(
             ids,
             states,
-            table,
-            round_keys,
-            k1,
+            forwarding_key,
             at,
             path,
             change,

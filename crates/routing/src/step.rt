@@ -6,8 +6,6 @@
 // Licensed under the Apache License, Version 2.0: see NOTICE.
 use crate::egress;
 use crate::ingress;
-use aes_cmac::aes;
-use aes_cmac::cmac;
 use interface_table::Listed;
 use standard_path::view;
 use validator::answer::AsRoutingAction;
@@ -17,8 +15,6 @@ use validator::answer::StepAnswer;
 use validator::answer::Validation;
 use validator::check::StandardValidator;
 ghost use mathlib.Core.Path.{_≡_};
-ghost use mathlib.Core.Bool.{true};
-ghost use mathlib.Core.List.{[]};
 ghost use Rattle.validator.specs.Questions.{firstNo};
 ghost use Rattle.interface_table.specs.Table.{stateOf};
 ghost use Rattle.routing.specs.Ingress.{ingress};
@@ -26,51 +22,6 @@ ghost use Rattle.routing.specs.Egress.{egress};
 ghost use Rattle.routing.specs.Step.{keyMac, atIngress, atEgress, leavingQuestions, finished, step};
 
 // ---- the halves
-
-// With MACs ignored no schedule is made: no MAC is worked out.
-fn ingress_unchecked(
-    ids: &[u16],
-    states: &[u8],
-    path: &mut [u8],
-    interface: u16,
-    time: u32,
-) -> IngressNextAction
-    ensures { λ r. ⌜ r ≡ ingress (now (ids .entry)) (now (states .entry)) (keyMac []) (atIngress interface time true)
-        (now (path .entry)) .answer ⌝ }
-    ensures { λ _. ⌜ now (path .exit) ≡ ingress (now (ids .entry)) (now (states .entry)) (keyMac []) (atIngress interface time true)
-        (now (path .entry)) .bytes ⌝ }
-{
-    let at = StandardValidator {
-        ingress: true,
-        interface,
-        time,
-        unchecked: true,
-    };
-    let table = [0; 1024];
-    ingress::ingress_with(ids, states, &table, [[0; 16]; 11], [0; 16], at, path)
-}
-
-fn egress_unchecked(
-    ids: &[u16],
-    states: &[u8],
-    path: &mut [u8],
-    interface: u16,
-    time: u32,
-) -> StepAnswer
-    ensures { λ r. ⌜ r ≡ egress (now (ids .entry)) (now (states .entry)) (keyMac []) (atEgress interface time true)
-        (now (path .entry)) .answer ⌝ }
-    ensures { λ _. ⌜ now (path .exit) ≡ egress (now (ids .entry)) (now (states .entry)) (keyMac []) (atEgress interface time true)
-        (now (path .entry)) .bytes ⌝ }
-{
-    let at = StandardValidator {
-        ingress: false,
-        interface,
-        time,
-        unchecked: true,
-    };
-    let table = [0; 1024];
-    egress::egress_with(ids, states, &table, [[0; 16]; 11], [0; 16], at, path)
-}
 
 pub fn standard_path_ingress(
     ids: &[u16],
@@ -86,19 +37,13 @@ pub fn standard_path_ingress(
     ensures { λ _. ⌜ now (path .exit) ≡ ingress (now (ids .entry)) (now (states .entry)) (keyMac (now («forwarding_key» .entry)))
         (atIngress «ingress_interface_id» time «ignore_macs») (now (path .entry)) .bytes ⌝ }
 {
-    if ignore_macs {
-        return ingress_unchecked(ids, states, path, ingress_interface_id, time);
-    }
-    let table = aes::round_table();
-    let round_keys = aes::expand_key(*forwarding_key);
-    let k1 = cmac::subkey_with(&table, round_keys);
     let at = StandardValidator {
         ingress: true,
         interface: ingress_interface_id,
         time,
-        unchecked: false,
+        unchecked: ignore_macs,
     };
-    ingress::ingress_with(ids, states, &table, round_keys, k1, at, path)
+    ingress::advance_ingress(ids, states, forwarding_key, at, path)
 }
 
 pub fn standard_path_egress(
@@ -115,19 +60,13 @@ pub fn standard_path_egress(
     ensures { λ _. ⌜ now (path .exit) ≡ egress (now (ids .entry)) (now (states .entry)) (keyMac (now («forwarding_key» .entry)))
         (atEgress «egress_if_id» time «ignore_macs») (now (path .entry)) .bytes ⌝ }
 {
-    if ignore_macs {
-        return egress_unchecked(ids, states, path, egress_if_id, time);
-    }
-    let table = aes::round_table();
-    let round_keys = aes::expand_key(*forwarding_key);
-    let k1 = cmac::subkey_with(&table, round_keys);
     let at = StandardValidator {
         ingress: false,
         interface: egress_if_id,
         time,
-        unchecked: false,
+        unchecked: ignore_macs,
     };
-    egress::egress_with(ids, states, &table, round_keys, k1, at, path)
+    egress::advance_egress(ids, states, forwarding_key, at, path)
 }
 
 // ---- between them

@@ -52,3 +52,10 @@ unfolding firstNo
 stops [] more why e = let z : _≡_ {A = ℕ} 0 1 = cc in absurd (omega arith)
 stops ((true, other) ∷ first) more why e = stops first more why e
 stops ((false, other) ∷ first) more why e = e
+
+-- all of the last part answered yes: the first part decides
+pub ends-yes : (first more : Questions) → firstNo more ≡ Valid → firstNo (first ++ more) ≡ firstNo first
+unfolding firstNo
+ends-yes [] more e = e
+ends-yes ((true, why) ∷ first) more e = ends-yes first more e
+ends-yes ((false, why) ∷ first) more e = refl

@@ -10,11 +10,13 @@ use interface_table::Listed;
 use standard_path::mac::calculate_hop_mac_with;
 use standard_path::view;
 ghost use mathlib.Core.Path.{_≡_};
-ghost use mathlib.Core.Bool.{_||_};
-ghost use Prim.Native.Nat.{_+_, _*_};
+ghost use mathlib.Core.Bool.{_||_, false};
+ghost use Prim.Native.Nat.{ℕ, _+_, _*_};
 ghost use lib.Dec.{eqb};
+ghost use lib.ListN.{take, drop};
+ghost use Rattle.validator.specs.declared.check.StandardValidator.{StandardValidator};
 ghost use Rattle.validator.specs.Questions.{firstNo};
-ghost use Rattle.validator.specs.Check.{scheduleMac, macNumber, interfaceFits, wrongInterface, rightMac, hopQuestions};
+ghost use Rattle.validator.specs.Check.{MacFunction, scheduleMac, macNumber, interfaceFits, wrongInterface, rightMac, hopQuestions};
 ghost use Rattle.validator.specs.Check.{linkQuestions, changeQuestions};
 
 // Where a hop is checked: at ingress or at egress, on which interface, when, and whether its MAC is not asked for.
@@ -107,19 +109,10 @@ impl StandardValidator {
         }
     }
 
-    // Questions 9 to 12 at ingress, 19 and 10 to 12 at egress.
-    pub fn validate_hop(
-        self,
-        table: &[u8; 1024],
-        round_keys: [[u8; 16]; 11],
-        k1: [u8; 16],
-        hop_index: u8,
-        hop: &[u8],
-        info: &[u8],
-        segment_id: u16,
-    ) -> Validation
-        ensures { λ r. ⌜ r ≡ firstNo (hopQuestions (scheduleMac (now (table .entry)) «round_keys» k1) self «hop_index»
-            (now (hop .entry)) (now (info .entry)) «segment_id») ⌝ }
+    // Questions 9 to 11 at ingress, 19, 10 and 11 at egress: those that ask for no MAC.
+    pub fn validate_hop(self, hop_index: u8, hop: &[u8], info: &[u8]) -> Validation
+        ensures { λ r. ⌜ ((mac : MacFunction) (segId : ℕ) → r ≡ firstNo (take 3 (hopQuestions mac self «hop_index»
+            (now (hop .entry)) (now (info .entry)) segId))) ⌝ }
     {
         if !self.interface_fits(hop, info) {
             return Validation::Invalid(self.wrong_interface(hop_index, hop, info));
@@ -130,20 +123,33 @@ impl StandardValidator {
         if view::expiry_timestamp(hop, info) < self.time {
             return Validation::Invalid(StandardRoutingError::SegmentExpired { hop_index });
         }
-        if self.unchecked {
-            return Validation::Valid;
-        }
-        let expected = expected_mac(table, round_keys, k1, hop, info, segment_id);
-        let actual = mac_number(view::mac(hop));
-        if expected == actual {
-            return Validation::Valid;
-        }
-        Validation::Invalid(StandardRoutingError::InvalidMacError {
-            hop_index,
-            expected,
-            actual,
-        })
+        Validation::Valid
     }
+}
+
+// Question 12, wherever MACs are checked.
+pub fn validate_mac(
+    table: &[u8; 1024],
+    round_keys: [[u8; 16]; 11],
+    k1: [u8; 16],
+    hop_index: u8,
+    hop: &[u8],
+    info: &[u8],
+    segment_id: u16,
+) -> Validation
+    ensures { λ r. ⌜ ((at : StandardValidator) → at .unchecked ≡ false → r ≡ firstNo (drop 3 (hopQuestions
+        (scheduleMac (now (table .entry)) «round_keys» k1) at «hop_index» (now (hop .entry)) (now (info .entry)) «segment_id»))) ⌝ }
+{
+    let expected = expected_mac(table, round_keys, k1, hop, info, segment_id);
+    let actual = mac_number(view::mac(hop));
+    if expected == actual {
+        return Validation::Valid;
+    }
+    Validation::Invalid(StandardRoutingError::InvalidMacError {
+        hop_index,
+        expected,
+        actual,
+    })
 }
 
 // Questions 14 to 16 of what the table has for the two interfaces.

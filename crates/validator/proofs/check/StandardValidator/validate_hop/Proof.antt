@@ -1,41 +1,26 @@
 use borrow.Author.Needs.{needs}
 use mathlib.Core.Path.{sym, ap, _∙_}
-use borrow.Author.Tests.{le-leb, lt-leb, eq-eqb, ne-eqb, not-true, not-false}
+use borrow.Author.Tests.{le-leb, lt-leb, not-true, not-false}
 use Rattle.validator.specs.declared.answer.Validation.the-variants.{Invalid}
 use Rattle.validator.specs.Questions.{firstNo}
-use Rattle.validator.specs.Check.{macNumber}
 use Rattle.validator.proofs.check.StandardValidator.validate_hop.Statement.{statement}
 use Rattle.validator.proofs.check.StandardValidator.validate_hop.Tie as tie
 
 returns : tie.Need-returns
 unfolding firstNo
-returns c = rw (sym (c .before .before .interface-fits .ensures) ∙ not-true _ (c .before .if1 .taken)) (ap Invalid (c .wrong-interface .ensures))
+returns c = λ mac segId. rw (sym (c .before .before .interface-fits .ensures) ∙ not-true _ (c .before .if1 .taken)) (ap Invalid (c .wrong-interface .ensures))
 
 returns-2 : tie.Need-returns-2
 unfolding firstNo
-returns-2 c =
-    rw (sym (c .before .before .before .before .interface-fits .ensures) ∙ not-false _ (c .before .before .before .if1 .left), lt-leb _ _ (rw (c .before .before .timestamp .ensures) at (c .if2 .taken)))
+returns-2 c = λ mac segId. rw (sym (c .before .before .before .before .interface-fits .ensures) ∙ not-false _ (c .before .before .before .if1 .left), lt-leb _ _ (rw (c .before .before .timestamp .ensures) at (c .if2 .taken)))
 
 returns-3 : tie.Need-returns-3
 unfolding firstNo
-returns-3 c =
-    rw (sym (c .before .before .before .before .before .before .before .interface-fits .ensures) ∙ not-false _ (c .before .before .before .before .before .before .if1 .left), le-leb _ _ (rw (c .before .before .before .before .before .timestamp .ensures) at (c .before .before .before .if2 .left)), lt-leb _ _ (rw (c .before .before .expiry-timestamp .ensures) at (c .if3 .taken)))
+returns-3 c = λ mac segId. rw (sym (c .before .before .before .before .before .before .before .interface-fits .ensures) ∙ not-false _ (c .before .before .before .before .before .before .if1 .left), le-leb _ _ (rw (c .before .before .before .before .before .timestamp .ensures) at (c .before .before .before .if2 .left)), lt-leb _ _ (rw (c .before .before .expiry-timestamp .ensures) at (c .if3 .taken)))
 
 returns-4 : tie.Need-returns-4
 unfolding firstNo
-returns-4 c =
-    rw (sym (c .before .before .before .before .before .before .before .before .interface-fits .ensures) ∙ not-false _ (c .before .before .before .before .before .before .before .if1 .left), le-leb _ _ (rw (c .before .before .before .before .before .before .timestamp .ensures) at (c .before .before .before .before .if2 .left)), le-leb _ _ (rw (c .before .before .before .expiry-timestamp .ensures) at (c .before .if3 .left)), c .if4 .taken)
-
-returns-5 : tie.Need-returns-5
-unfolding firstNo
-returns-5 c =
-    rw (sym (c .before .before .before .before .before .before .before .before .before .before .before .before .interface-fits .ensures) ∙ not-false _ (c .before .before .before .before .before .before .before .before .before .before .before .if1 .left), le-leb _ _ (rw (c .before .before .before .before .before .before .before .before .before .before .timestamp .ensures) at (c .before .before .before .before .before .before .before .before .if2 .left)), le-leb _ _ (rw (c .before .before .before .before .before .before .before .expiry-timestamp .ensures) at (c .before .before .before .before .before .if3 .left)), c .before .before .before .before .if4 .left, eq-eqb _ _ (sym (c .before .before .before .expected-mac .ensures) ∙ c .if5 .taken ∙ c .before .mac-number .ensures ∙ ap macNumber (c .before .before .mac .ensures)))
-
-returns-6 : tie.Need-returns-6
-unfolding firstNo
-returns-6 c =
-    let actual = c .before .mac-number .ensures ∙ ap macNumber (c .before .before .mac .ensures) in
-    rw (sym (c .before .before .before .before .before .before .before .before .before .before .before .before .interface-fits .ensures) ∙ not-false _ (c .before .before .before .before .before .before .before .before .before .before .before .if1 .left), le-leb _ _ (rw (c .before .before .before .before .before .before .before .before .before .before .timestamp .ensures) at (c .before .before .before .before .before .before .before .before .if2 .left)), le-leb _ _ (rw (c .before .before .before .before .before .before .before .expiry-timestamp .ensures) at (c .before .before .before .before .before .if3 .left)), c .before .before .before .before .if4 .left, ← c .before .before .before .expected-mac .ensures, ← actual, ne-eqb _ _ (c .if5 .left))
+returns-4 c = λ mac segId. rw (sym (c .before .before .before .before .before .before .before .interface-fits .ensures) ∙ not-false _ (c .before .before .before .before .before .before .if1 .left), le-leb _ _ (rw (c .before .before .before .before .before .timestamp .ensures) at (c .before .before .before .if2 .left)), le-leb _ _ (rw (c .before .before .expiry-timestamp .ensures) at (c .if3 .left)))
 
 pub validate-hop-spec : {M : Type 1} → statement M
 validate-hop-spec =
@@ -48,9 +33,4 @@ validate-hop-spec =
     returns-2
     (λ c κs. search needs)
     returns-3
-    returns-4
-    (λ c κs. search needs)
-    (λ c κs. search needs)
-    (λ c κs. search needs)
-    returns-5
-    returns-6)
+    returns-4)
