@@ -1,2 +1,4 @@
 pub mod Walk
+pub mod Range
 pub mod Expiry
+pub mod Held

@@ -1,17 +1,20 @@
--- Walking from the first place by `nextSegment` gives the segments before the first zero length, in order, and then ends.
+-- An iterator gives, step by step, the segments before the first zero length, in order, and then the end for ever.
 -- Assumes nothing.
-use mathlib.Core.Path.{_≡_, refl, ap, _∙_}
+use mathlib.Core.Path.{_≡_, refl, sym, ap, subst, _∙_}
 use mathlib.Core.Bool.{Bool, true, false}
 use mathlib.Core.List.{List, [], _∷_}
 use Prim.Native.Nat.{ℕ, suc, _+_, _≤_, _<_}
 use native.Mathlib.Omega.{arith}
-use borrow.Author.Tests.{eq-eqb, ne-eqb, le-leb, lt-leb, lt-ltb, le-ltb, leb-false, ltb-false}
-use lib.Dec.{eqb, ltb, leb}
+use borrow.Author.Tests.{eq-eqb, ne-eqb, le-leb, lt-leb, lt-ltb, le-ltb}
+use lib.Dec.{eqb}
+use denote.Ref.{RefT, now}
 use lib.ListN.{length, getD}
 use Rattle.standard_path.specs.Header.{hops}
 use Rattle.segments.specs.Segments.{PathSegment, segmentsFrom, lengths, segments, segmentCount}
-use Rattle.segments.specs.Segments.{firstPlace, segLen, nextSegment}
+use Rattle.segments.specs.Segments.{segLen, nextSegment, placeAfter, started, stepOf, advanced}
+use Rattle.segments.specs.declared.SegmentIterator.{SegmentIterator}
 use Rattle.segments.specs.declared.SegmentPlace.{SegmentPlace}
+use Rattle.segments.specs.declared.SegmentStep.{SegmentStep}
 use Rattle.segments.specs.declared.SegmentStep.the-variants.{Segment, End}
 
 -- the test of a length, from that of what was read
@@ -21,23 +24,23 @@ zero-length {read} {n} e z = eq-eqb n 0 (omega arith)
 pub nonzero-length : {read n : ℕ} → read ≡ n → (read ≡ 0 → ⊥) → eqb n 0 ≡ false
 nonzero-length {read} {n} e z = ne-eqb n 0 (λ q. z (e ∙ q))
 
--- steps from a place to the end, with the segments that they give
-pub data Walk (path : List ℕ) : SegmentPlace → List PathSegment → Type 0 where
-  ends : {place : SegmentPlace} → nextSegment path place ≡ End → Walk path place []
-  goes : {place next : SegmentPlace} {info first count : ℕ} {rest : List PathSegment}
-      → nextSegment path place ≡ Segment info first count next → Walk path next rest
-      → Walk path place (record { info = info; first = first; count = count } ∷ rest)
+-- the steps of an iterator to its end, with the segments that they give
+pub data Walk : SegmentIterator → List PathSegment → Type 0 where
+  ends : {at : SegmentIterator} → stepOf at ≡ End → Walk at []
+  goes : {at : SegmentIterator} {behind : SegmentPlace} {info first count : ℕ} {rest : List PathSegment}
+      → stepOf at ≡ Segment info first count behind → Walk (advanced at) rest
+      → Walk at (record { info = info; first = first; count = count } ∷ rest)
 
--- there is no other walk from that place
-pub walk-only : {path : List ℕ} {place : SegmentPlace} {one other : List PathSegment} → Walk path place one → Walk path place other
-    → one ≡ other
+-- there is no other walk from it
+pub walk-only : {at : SegmentIterator} {one other : List PathSegment} → Walk at one → Walk at other → one ≡ other
 walk-only (ends p) (ends q) = refl
 walk-only (ends p) (goes q w) = let z : _≡_ {A = ℕ} 0 1 = cc in absurd (omega arith)
 walk-only (goes p v) (ends q) = let z : _≡_ {A = ℕ} 0 1 = cc in absurd (omega arith)
-walk-only (goes {next = next} p v) (goes {next = also} q w) =
-    let here : also ≡ next = cc in
-    let rest = walk-only v (rw here at w) in
-    cc
+walk-only (goes p v) (goes q w) = let rest = walk-only v w in cc
+
+-- past the end there is the end again
+pub end-stays : (at : SegmentIterator) → stepOf at ≡ End → advanced at ≡ at
+end-stays at e = ap (λ (step : SegmentStep). record { path = at .path; place = placeAfter (at .place) step }) e
 
 module _ (path : List ℕ) where
   abbrev pub place : ℕ → ℕ → SegmentPlace
@@ -76,54 +79,6 @@ module _ (path : List ℕ) where
         sum = omega (arith, o .sum);
       }
 
-  walk-more : {s h n : ℕ} {left : List ℕ} (b : Bool) → eqb n 0 ≡ b → Onward s h (n ∷ left)
-      → (Onward (s + 1) (h + n) left → Walk path (place (s + 1) (h + n)) (segmentsFrom (s + 1) (h + n) left))
-      → Walk path (place s h) (segmentsFrom s h (n ∷ left))
-  walk-more {s} {h} true e o again =
-      let counted = rw e at (o .counted) in
-      rw e (ends (step-ends s h (omega (arith, counted))))
-  walk-more {s} {h} {n} false e o again =
-      let counted = rw e at (o .counted) in
-      let here : segLen path s ≡ n = ap (segLen path) (omega arith) ∙ o .at 0 in
-      rw e (goes (step-goes s h n (omega (arith, counted)) here (omega (arith, o .sum))) (again (onward-more e o)))
-
-  walk-from : (left : List ℕ) (s h : ℕ) → Onward s h left → Walk path (place s h) (segmentsFrom s h left)
-  walk-from [] s h o = ends (step-ends s h (omega (arith, o .counted)))
-  walk-from (n ∷ left) s h o = walk-more (eqb n 0) refl o (walk-from left (s + 1) (h + n))
-
-  pub walk-segments : Walk path firstPlace (segments path)
-  unfolding segments segmentCount segLen hops
-  walk-segments =
-      walk-from (lengths path) 0 0
-      (record { counted = omega arith; at = λ k. let e : 0 + k ≡ k = omega arith in rw e; sum = omega arith })
-
-  -- what a step tells
-  pub record Stepped (place : SegmentPlace) (first count : ℕ) (next : SegmentPlace) : Type 0 where
-    pub within : place .«seg_idx» < segmentCount path
-    pub inside : first + count ≤ hops path
-    pub onward : next .«seg_idx» ≡ place .«seg_idx» + 1
-
-  stepped-by : {at next : SegmentPlace} {info first count : ℕ} (b d : Bool) → leb (segmentCount path) (at .«seg_idx») ≡ b
-      → ltb (hops path) (at .«hop_idx» + segLen path (at .«seg_idx»)) ≡ d → nextSegment path at ≡ Segment info first count next
-      → Stepped at first count next
-  unfolding nextSegment
-  stepped-by true d p q e = let f = rw p at e in let z : _≡_ {A = ℕ} 0 1 = cc in absurd (omega arith)
-  stepped-by false true p q e = let f = rw (p, q) at e in let z : _≡_ {A = ℕ} 0 1 = cc in absurd (omega arith)
-  stepped-by {at} {next} {info} {first} {count} false false p q e =
-      let f = rw (p, q) at e in
-      let h : first ≡ at .«hop_idx» = cc in
-      let n : count ≡ segLen path (at .«seg_idx») = cc in
-      let r : next ≡ place (at .«seg_idx» + 1) (at .«hop_idx» + segLen path (at .«seg_idx»)) = cc in
-      record {
-        within = leb-false _ _ p;
-        inside = rw (h, n) (ltb-false _ _ q);
-        onward = ap (λ (m : SegmentPlace). m .«seg_idx») r;
-      }
-
-  pub stepped : {at next : SegmentPlace} {info first count : ℕ} → nextSegment path at ≡ Segment info first count next
-      → Stepped at first count next
-  stepped e = stepped-by _ _ refl refl e
-
   from-at-most : (s h : ℕ) (left : List ℕ) → length (segmentsFrom s h left) ≤ length left
   from-at-most s h [] = omega arith
   from-at-most s h (n ∷ left) = go (eqb n 0) refl (from-at-most (s + 1) (h + n) left)
@@ -136,3 +91,34 @@ module _ (path : List ℕ) where
   pub count-at-most : segmentCount path ≤ 3
   unfolding segmentCount segments
   count-at-most = from-at-most 0 0 (lengths path)
+
+module _ (lent : RefT (List ℕ)) where
+  abbrev path : List ℕ
+  path = now lent
+
+  abbrev iterator : ℕ → ℕ → SegmentIterator
+  iterator s h = record { path = lent; place = place path s h }
+
+  walk-more : {s h n : ℕ} {left : List ℕ} (b : Bool) → eqb n 0 ≡ b → Onward path s h (n ∷ left)
+      → (Onward path (s + 1) (h + n) left → Walk (iterator (s + 1) (h + n)) (segmentsFrom (s + 1) (h + n) left))
+      → Walk (iterator s h) (segmentsFrom s h (n ∷ left))
+  walk-more {s} {h} true e o again =
+      let counted = rw e at (o .counted) in
+      rw e (ends (step-ends path s h (omega (arith, counted))))
+  walk-more {s} {h} {n} {left} false e o again =
+      let counted = rw e at (o .counted) in
+      let here : segLen path s ≡ n = ap (segLen path) (omega arith) ∙ o .at 0 in
+      let step = step-goes path s h n (omega (arith, counted)) here (omega (arith, o .sum)) in
+      let behind : advanced (iterator s h) ≡ iterator (s + 1) (h + n) =
+      ap (λ (to : SegmentStep). record { path = lent; place = placeAfter (place path s h) to }) step in
+      rw e (goes step (subst (λ (at : SegmentIterator). Walk at (segmentsFrom (s + 1) (h + n) left)) (sym behind) (again (onward-more path e o))))
+
+  walk-from : (left : List ℕ) (s h : ℕ) → Onward path s h left → Walk (iterator s h) (segmentsFrom s h left)
+  walk-from [] s h o = ends (step-ends path s h (omega (arith, o .counted)))
+  walk-from (n ∷ left) s h o = walk-more (eqb n 0) refl o (walk-from left (s + 1) (h + n))
+
+  pub walk-segments : Walk (started lent) (segments path)
+  unfolding segments segmentCount segLen hops
+  walk-segments =
+      walk-from (lengths path) 0 0
+      (record { counted = omega arith; at = λ k. let e : 0 + k ≡ k = omega arith in rw e; sum = omega arith })

@@ -1,18 +1,22 @@
--- 01, 'view.rs': the segments of a path before the first zero length, a step of a walk along them, and when the path ends.
+-- 01, 'view.rs' and 'The shape of each place': the segments of a path before the first zero length, an iterator over them, and when the
+-- path ends. The Rust: `segments`, `expiration` and `SegmentIterator` of view.rs.
 -- Assumes nothing.
-use Prim.Native.Nat.{ℕ, _+_, min}
+use Prim.Native.Nat.{ℕ, _+_, _*_, min}
 use mathlib.Core.Bool.{cond}
 use mathlib.Core.List.{List, [], _∷_, map}
 use lib.Dec.{eqb, ltb, leb}
-use lib.ListN.{length, getD}
+use lib.ListN.{length, getD, take, drop}
+use denote.Ref.{RefT, now}
 use Rattle.octets.specs.Bytes.{tabulate}
 use Rattle.standard_path.specs.Fields.{seg0Len, seg1Len, seg2Len, timestamp, expTime, expiry}
-use Rattle.standard_path.specs.Header.{hops, infoField, hopField, headerCheck}
+use Rattle.standard_path.specs.Layout.{hopOffset}
+use Rattle.standard_path.specs.Header.{infos, hops, infoField, hopField, headerCheck}
 use Rattle.standard_path.specs.declared.view.HeaderCheck.{HeaderCheck}
 use Rattle.standard_path.specs.declared.view.HeaderCheck.the-variants as check
 use Rattle.segments.specs.declared.SegmentPlace.{SegmentPlace}
 use Rattle.segments.specs.declared.SegmentStep.{SegmentStep}
 use Rattle.segments.specs.declared.SegmentStep.the-variants.{Segment, End}
+use Rattle.segments.specs.declared.SegmentIterator.{SegmentIterator}
 use Rattle.segments.specs.declared.PathExpiration.{PathExpiration}
 use Rattle.segments.specs.declared.PathExpiration.the-variants.{At, MetaTooShort, DataTooShort, TooManyHops}
 
@@ -39,10 +43,14 @@ segments path = segmentsFrom 0 0 (lengths path)
 unfoldable pub segmentCount : List ℕ → ℕ
 segmentCount path = length (segments path)
 
--- ---- a step of a walk
+-- count hop fields from hop field `first` on, as one part; and hop field i of such a part
+unfoldable pub hopFields : List ℕ → ℕ → ℕ → List ℕ
+hopFields path first count = take (12 * count) (drop (hopOffset (infos path) first) path)
 
-abbrev pub firstPlace : SegmentPlace
-firstPlace = record { «seg_idx» = 0; «hop_idx» = 0 }
+unfoldable pub hopOf : List ℕ → ℕ → List ℕ
+hopOf part i = take 12 (drop (12 * i) part)
+
+-- ---- a step along them
 
 -- the length of segment s, 0 past the third
 unfoldable pub segLen : List ℕ → ℕ → ℕ
@@ -56,6 +64,22 @@ nextSegment path place =
     (Segment (place .«seg_idx») (place .«hop_idx») (segLen path (place .«seg_idx»))
     (record { «seg_idx» = place .«seg_idx» + 1; «hop_idx» = place .«hop_idx» + segLen path (place .«seg_idx») })))
 
+abbrev pub placeAfter : SegmentPlace → SegmentStep → SegmentPlace
+placeAfter place (Segment info first count behind) = behind
+placeAfter place End = place
+
+-- ---- an iterator: the path, and the place in it
+
+abbrev pub started : RefT (List ℕ) → SegmentIterator
+started path = record { path = path; place = record { «seg_idx» = 0; «hop_idx» = 0 } }
+
+-- what `next` gives, and what it leaves: the same path, and the place behind the step
+abbrev pub stepOf : SegmentIterator → SegmentStep
+stepOf at = nextSegment (now (at .path)) (at .place)
+
+abbrev pub advanced : SegmentIterator → SegmentIterator
+advanced at = record { path = at .path; place = placeAfter (at .place) (stepOf at) }
+
 -- ---- when a path ends
 
 -- the least of a list of times, of which none is above the cap
@@ -68,6 +92,10 @@ hopExpiry path info hop = expiry (timestamp (infoField path info)) (expTime (hop
 
 unfoldable pub segmentExpiry : List ℕ → PathSegment → ℕ
 segmentExpiry path segment = least (tabulate (segment .count) (segment .first) (hopExpiry path (segment .info)))
+
+abbrev pub stepExpiry : List ℕ → SegmentStep → ℕ
+stepExpiry path (Segment info first count behind) = segmentExpiry path (record { info = info; first = first; count = count })
+stepExpiry path End = 4294967295
 
 -- the least expiry over the segments, 0 if there are none
 unfoldable pub pathExpiry : List ℕ → ℕ

@@ -1,16 +1,22 @@
 // The segments of a standard path before the first zero length, one after the other, and when the path ends.
 //
 // Ported from crates/libs/sciparse/src/proto/dataplane_path/standard/view.rs of Anapaya/scion-sdk at commit 866faf5ba3, and changed:
-// rewritten in Rattle, with contracts; the path and the place in it are passed separately; a header that is not whole is refused.
+// rewritten in Rattle, with contracts; `SegmentIterator` keeps the path and its place in it, and `next` gives a segment by its
+// numbers, of which `info_field` and `hop_fields` make its parts; a header that is not whole is refused.
 // Copyright 2026 Anapaya Systems
 // Licensed under the Apache License, Version 2.0: see NOTICE.
+use standard_path::layout::HopFieldLayout;
 use standard_path::view;
 use standard_path::view::HeaderCheck;
 ghost use mathlib.Core.Path.{_≡_};
-ghost use Prim.Native.Nat.{_+_, _<_, min};
+ghost use mathlib.Core.List.{map};
+ghost use Prim.Native.Nat.{min};
 ghost use lib.Dec.{eqb};
-ghost use Rattle.segments.specs.Segments.{segmentCount, segLen, firstPlace, nextSegment};
-ghost use Rattle.segments.specs.Segments.{hopExpiry, segmentExpiry, pathExpiry, expiration, expirationNumber};
+ghost use lib.ListN.{take, drop};
+ghost use Rattle.standard_path.specs.Header.{hops, infoField};
+ghost use Rattle.segments.specs.Segments.{segments, segmentCount, segLen, hopFields, hopOf, nextSegment, placeAfter};
+ghost use Rattle.segments.specs.Segments.{started, stepOf, advanced};
+ghost use Rattle.segments.specs.Segments.{least, segmentExpiry, stepExpiry, pathExpiry, expiration, expirationNumber};
 
 // ---- the segments
 
@@ -46,23 +52,47 @@ fn seg_len(path: &[u8], index: u8) -> u8
     }
 }
 
-// ---- a walk along them
+// ---- a segment's parts: `view::info_field`, and its hop fields
+
+// As many bytes from a place on; fewer where the bytes end.
+fn part(bytes: &[u8], at: usize, count: usize) -> &[u8]
+    ensures { λ r. ⌜ now r ≡ take count (drop at (now (bytes .entry))) ⌝ }
+{
+    if bytes.len() < at {
+        return view::rest(bytes, at);
+    }
+    if bytes.len() - at < count {
+        return view::rest(bytes, at);
+    }
+    let end = at + count;
+    &bytes[at..end]
+}
+
+// The hop fields from an index on, as one part of the path.
+pub fn hop_fields(path: &[u8], first_hop: u8, hop_count: u8) -> &[u8]
+    ensures { λ r. ⌜ now r ≡ hopFields (now (path .entry)) «first_hop» «hop_count» ⌝ }
+{
+    let at = HopFieldLayout::offset(view::info_field_count(path), first_hop);
+    part(path, at, HopFieldLayout::SIZE_BYTES * (hop_count as usize))
+}
+
+// One of them.
+pub fn hop_of(hops: &[u8], index: u8) -> &[u8]
+    ensures { λ r. ⌜ now r ≡ hopOf (now (hops .entry)) index ⌝ }
+{
+    part(
+        hops,
+        HopFieldLayout::SIZE_BYTES * (index as usize),
+        HopFieldLayout::SIZE_BYTES,
+    )
+}
+
+// ---- a step along the segments
 
 // The next segment, and its first hop.
 pub struct SegmentPlace {
     pub seg_idx: u8,
     pub hop_idx: u8,
-}
-
-impl SegmentPlace {
-    pub fn first() -> SegmentPlace
-        ensures { λ r. ⌜ r ≡ firstPlace ⌝ }
-    {
-        SegmentPlace {
-            seg_idx: 0,
-            hop_idx: 0,
-        }
-    }
 }
 
 pub enum SegmentStep {
@@ -100,6 +130,79 @@ pub fn next_segment(path: &[u8], place: SegmentPlace) -> SegmentStep
     }
 }
 
+// The place behind a step; an end leaves it.
+pub fn place_after(place: SegmentPlace, step: SegmentStep) -> SegmentPlace
+    ensures { λ r. ⌜ r ≡ placeAfter place step ⌝ }
+{
+    match step {
+        SegmentStep::Segment { next, .. } => next,
+        SegmentStep::End => place,
+    }
+}
+
+// ---- the iterator
+
+// It is plain data but for the path, so a copy of it is a walk of its own.
+pub struct SegmentIterator<'a> {
+    pub path: &'a [u8],
+    pub place: SegmentPlace,
+}
+
+impl<'a> SegmentIterator<'a> {
+    pub fn new(path: &'a [u8]) -> SegmentIterator<'a>
+        ensures { λ r. ⌜ r ≡ started (path .entry) ⌝ }
+    {
+        SegmentIterator {
+            path,
+            place: SegmentPlace {
+                seg_idx: 0,
+                hop_idx: 0,
+            },
+        }
+    }
+
+    pub fn is_empty(self) -> bool
+        ensures { λ r. ⌜ r ≡ eqb (segmentCount (now (self .entry .path))) 0 ⌝ }
+    {
+        is_empty(self.path)
+    }
+
+    pub fn segment_count(self) -> u8
+        ensures { λ r. ⌜ r ≡ segmentCount (now (self .entry .path)) ⌝ }
+    {
+        segment_count(self.path)
+    }
+
+    // All hop fields of the header, also those behind a zero length.
+    pub fn hop_field_count(self) -> u8
+        ensures { λ r. ⌜ r ≡ hops (now (self .entry .path)) ⌝ }
+    {
+        view::hop_field_count(self.path)
+    }
+
+    pub fn next(&mut self) -> SegmentStep
+        ensures { λ r. ⌜ (r ≡ stepOf (now (self .entry))) × (now (self .exit) ≡ advanced (now (self .entry))) ⌝ }
+    {
+        let place = self.place;
+        let step = next_segment(self.path, place);
+        self.place = place_after(place, step);
+        step
+    }
+
+    // The parts of a segment that `next` gave.
+    pub fn info_field(self, info_idx: u8) -> &'a [u8]
+        ensures { λ r. ⌜ now r ≡ infoField (now (self .entry .path)) «info_idx» ⌝ }
+    {
+        view::info_field(self.path, info_idx)
+    }
+
+    pub fn hop_fields(self, first_hop: u8, hop_count: u8) -> &'a [u8]
+        ensures { λ r. ⌜ now r ≡ hopFields (now (self .entry .path)) «first_hop» «hop_count» ⌝ }
+    {
+        hop_fields(self.path, first_hop, hop_count)
+    }
+}
+
 // ---- when a path ends
 
 fn lesser(a: u32, b: u32) -> u32
@@ -108,52 +211,64 @@ fn lesser(a: u32, b: u32) -> u32
     if a < b { a } else { b }
 }
 
-fn hop_expiry(path: &[u8], info_idx: u8, hop_idx: u8) -> u32
-    ensures { λ r. ⌜ r ≡ hopExpiry (now (path .entry)) «info_idx» «hop_idx» ⌝ }
-{
-    view::expiry_timestamp(
-        view::hop_field(path, hop_idx),
-        view::info_field(path, info_idx),
-    )
-}
-
 // The least expiry of a segment's hops.
 fn segment_expiry(path: &[u8], info_idx: u8, first_hop: u8, hop_count: u8) -> u32
-    requires { ⌜ «first_hop» + «hop_count» < 256 ⌝ }
     ensures { λ r. ⌜ r ≡ segmentExpiry (now (path .entry)) (record { info = «info_idx»; first = «first_hop»; count = «hop_count» }) ⌝ }
 {
-    let end = first_hop + hop_count;
+    let info = view::info_field(path, info_idx);
+    let hops = hop_fields(path, first_hop, hop_count);
     let mut expiry = 0xffff_ffff;
-    let mut hop = first_hop;
-    while hop < end {
-        expiry = lesser(expiry, hop_expiry(path, info_idx, hop));
-        hop += 1;
+    let mut index = 0;
+    while index < hop_count {
+        expiry = lesser(expiry, view::expiry_timestamp(hop_of(hops, index), info));
+        index += 1;
     }
     expiry
 }
 
-// The least expiry of the path's segments, 0 if it has none.
+// That of the segment a step gave; the cap at the end.
+fn step_expiry(path: &[u8], step: SegmentStep) -> u32
+    ensures { λ r. ⌜ r ≡ stepExpiry (now (path .entry)) step ⌝ }
+{
+    match step {
+        SegmentStep::Segment {
+            info_idx,
+            first_hop,
+            hop_count,
+            ..
+        } => segment_expiry(path, info_idx, first_hop, hop_count),
+        SegmentStep::End => 0xffff_ffff,
+    }
+}
+
+fn earliest(path: &[u8], first: SegmentStep, second: SegmentStep, third: SegmentStep) -> u32
+    ensures { λ r. ⌜ r ≡ min (stepExpiry (now (path .entry)) first) (min (stepExpiry (now (path .entry)) second) (stepExpiry (now (path .entry)) third)) ⌝ }
+{
+    lesser(
+        step_expiry(path, first),
+        lesser(step_expiry(path, second), step_expiry(path, third)),
+    )
+}
+
+// The least expiry of the path's segments, three at most.
+fn least_expiry(path: &[u8]) -> u32
+    ensures { λ r. ⌜ r ≡ least (map (segmentExpiry (now (path .entry))) (segments (now (path .entry)))) ⌝ }
+{
+    let mut segments = SegmentIterator::new(path);
+    let first = segments.next();
+    let second = segments.next();
+    let third = segments.next();
+    earliest(path, first, second, third)
+}
+
+// The same, 0 if the path has no segments.
 fn path_expiry(path: &[u8]) -> u32
     ensures { λ r. ⌜ r ≡ pathExpiry (now (path .entry)) ⌝ }
 {
     if is_empty(path) {
-        return 0;
-    }
-    let mut expiry = 0xffff_ffff;
-    let mut place = SegmentPlace::first();
-    loop {
-        match next_segment(path, place) {
-            SegmentStep::Segment {
-                info_idx,
-                first_hop,
-                hop_count,
-                next,
-            } => {
-                expiry = lesser(expiry, segment_expiry(path, info_idx, first_hop, hop_count));
-                place = next;
-            }
-            SegmentStep::End => return expiry,
-        }
+        0
+    } else {
+        least_expiry(path)
     }
 }
 
