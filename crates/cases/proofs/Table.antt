@@ -19,7 +19,8 @@ use Rattle.standard_path.specs.Header.{infos, hops, headerSize, infoField, hopF
 use Rattle.standard_path.specs.Moves.{setSegId, clearIngressAlert}
 use Rattle.standard_path.specs.declared.view.HeaderCheck.{HeaderCheck}
 use Rattle.standard_path.specs.declared.view.HeaderCheck.the-variants.{Complete, MetaTooShort, DataTooShort, TooManyHops}
-use Rattle.reverse.specs.Reverse.{reverseNumber, usedSegments, setLengths, swapLengths, toggleConsDir, toggleConsDirs, lastFirst}
+use Rattle.segments.specs.Segments.{segments, segmentCount}
+use Rattle.reverse.specs.Reverse.{reverseNumber, setLengths, swapLengths, toggleConsDir, toggleConsDirs, lastFirst}
 use Rattle.reverse.specs.Reverse.{reverseFields, reverseParts, reversed, reverseAsked, reverseAnswer, bytesLeft, reverseBytes}
 use Rattle.reverse.specs.declared.Reversal.{Reversal}
 use Rattle.reverse.specs.declared.Reversal.the-variants.{Reversed, Failed}
@@ -258,7 +259,7 @@ failure (Failed why) = reverseNumber why
 failure Reversed = 0
 
 turned : List ℕ → List ℕ
-unfolding check setCurrHf setCurrInf usedSegments setLengths swapLengths toggleConsDir toggleConsDirs lastFirst reverseFields reverseParts reversed reverseAsked reverseAnswer bytesLeft reverseBytes
+unfolding check setCurrHf setCurrInf segments segmentCount setLengths swapLengths toggleConsDir toggleConsDirs lastFirst reverseFields reverseParts reversed reverseAsked reverseAnswer bytesLeft reverseBytes
 turned path = reverseBytes path
 
 -- (2,3,0), CurrHF 1, CurrINF 0, reversed: (3,2,0), CurrHF 3, CurrINF 1

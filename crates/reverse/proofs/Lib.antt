@@ -1,6 +1,5 @@
 pub mod FieldOrder
 pub mod FieldSwap
-pub mod UsedSegments
 pub mod Reversible
 pub mod ReversedLengths
 pub mod ReversedInfos

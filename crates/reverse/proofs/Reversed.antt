@@ -12,14 +12,15 @@ use lib.Seq.{take-add, drop-at, length-take-le, drop-set-lt, getD-take}
 use Rattle.standard_path.specs.Layout.{infoOffset, hopOffset}
 use Rattle.standard_path.specs.Fields.{currInf, currHf, seg0Len, seg1Len, seg2Len, setCurrInf, setCurrHf}
 use Rattle.standard_path.specs.Header.{infos, hops, headerSize, infoField, hopField, headerCheck}
-use Rattle.reverse.specs.Reverse.{usedSegments, swapLengths, toggleConsDirs, reverseFields, reverseParts, reversed}
+use Rattle.segments.specs.Segments.{segments, segmentCount}
+use Rattle.reverse.specs.Reverse.{swapLengths, toggleConsDirs, reverseFields, reverseParts, reversed}
 use Rattle.reverse.specs.Reverse.{bytesLeft, reverseAnswer, reverseBytes}
 use Rattle.reverse.specs.declared.Reversal.{Reversal}
 use Rattle.reverse.specs.declared.Reversal.the-variants.{Reversed, Failed}
 use Rattle.reverse.specs.declared.PathReverseError.the-variants.{MetaTooShort, DataTooShort, TooManyHops}
 use Rattle.reverse.specs.declared.PathReverseError.the-variants.{NoSegments, HopOutOfBounds, InfoOutOfBounds}
 use Rattle.reverse.proofs.FieldOrder.{length-reverse-fields, before-fields, behind-fields, reversed-field}
-use Rattle.reverse.proofs.UsedSegments.{used-few}
+use Rattle.segments.proofs.Walk.{count-at-most}
 use Rattle.reverse.proofs.Reversible.{Whole, whole, Reversible, reversible}
 use Rattle.reverse.proofs.ReversedLengths.{Lengths, own-lengths, infos-of, hops-of, length-swap-lengths, behind-lengths}
 use Rattle.reverse.proofs.ReversedLengths.{swapped-infos, swapped-hops, swapped-used}
@@ -141,9 +142,9 @@ module _ (path : List ℕ) (ok : Reversible path) where
   unfolding reversed
   reversed-curr-hf = curr-hf-set parts _ _ (rw length-of-parts (omega (arith, of-header .meta))) (omega (arith, of-header .few, ok .hop))
 
-  pub reversed-curr-inf : currInf (reversed path) ≡ usedSegments path - 1 - currInf path
+  pub reversed-curr-inf : currInf (reversed path) ≡ segmentCount path - 1 - currInf path
   unfolding reversed
-  reversed-curr-inf = curr-inf-set parts _ _ (rw length-of-parts (omega (arith, of-header .meta))) (omega (arith, used-few path, ok .info))
+  reversed-curr-inf = curr-inf-set parts _ _ (rw length-of-parts (omega (arith, of-header .meta))) (omega (arith, count-at-most path, ok .info))
 
   -- the lengths are those swapped
   pub reversed-lengths : Lengths (reversed path) (seg0Len (swapLengths path)) (seg1Len (swapLengths path)) (seg2Len (swapLengths path))
@@ -162,8 +163,8 @@ module _ (path : List ℕ) (ok : Reversible path) where
     reversed-hops =
         hops-of reversed-lengths ∙ sym (hops-of (own-lengths (swapLengths path))) ∙ swapped-hops path bytes (of-header .meta)
 
-    pub reversed-used : usedSegments (reversed path) ≡ usedSegments path
-    unfolding usedSegments
+    pub reversed-used : segmentCount (reversed path) ≡ segmentCount path
+    unfolding segmentCount segments
     reversed-used =
         rw (reversed-lengths .first, reversed-lengths .second, reversed-lengths .third)
         (swapped-used path bytes (of-header .meta) (ok .segments))

@@ -12,8 +12,8 @@ use borrow.Author.Tests.{eqb-true, eqb-false, eq-eqb, ne-eqb}
 use Rattle.standard_path.specs.Layout.{infoCount, hopCount}
 use Rattle.standard_path.specs.Fields.{seg0Len, seg1Len, seg2Len}
 use Rattle.standard_path.specs.Header.{infos, hops}
-use Rattle.reverse.specs.Reverse.{usedSegments, setLengths, swapLengths}
-use Rattle.reverse.proofs.UsedSegments.{two-used, three-used}
+use Rattle.segments.specs.Segments.{segments, segmentCount}
+use Rattle.reverse.specs.Reverse.{setLengths, swapLengths}
 
 pub record Lengths (path : List ℕ) (seg0 seg1 seg2 : ℕ) : Type 0 where
   pub first : seg0Len path ≡ seg0
@@ -32,11 +32,14 @@ module _ {path : List ℕ} {seg0 seg1 seg2 : ℕ} (l : Lengths path seg0 seg1 se
   unfolding hops
   hops-of = omega arith
 
-  two-of : (seg0 ≡ 0 → ⊥) → (seg1 ≡ 0 → ⊥) → seg2 ≡ 0 → usedSegments path ≡ 2
-  two-of n m e = sym (two-used path (λ z. n (sym (l .first) ∙ z)) (λ z. m (sym (l .second) ∙ z)) (l .third ∙ e))
+  two-of : (seg0 ≡ 0 → ⊥) → (seg1 ≡ 0 → ⊥) → seg2 ≡ 0 → segmentCount path ≡ 2
+  unfolding segmentCount segments
+  two-of n m e = simp (ne-eqb _ _ (λ z. n (sym (l .first) ∙ z)), ne-eqb _ _ (λ z. m (sym (l .second) ∙ z)), eq-eqb _ _ (l .third ∙ e))
 
-  three-of : (seg0 ≡ 0 → ⊥) → (seg1 ≡ 0 → ⊥) → (seg2 ≡ 0 → ⊥) → usedSegments path ≡ 3
-  three-of n m k = sym (three-used path (λ z. n (sym (l .first) ∙ z)) (λ z. m (sym (l .second) ∙ z)) (λ z. k (sym (l .third) ∙ z)))
+  three-of : (seg0 ≡ 0 → ⊥) → (seg1 ≡ 0 → ⊥) → (seg2 ≡ 0 → ⊥) → segmentCount path ≡ 3
+  unfolding segmentCount segments
+  three-of n m k =
+      simp (ne-eqb _ _ (λ z. n (sym (l .first) ∙ z)), ne-eqb _ _ (λ z. m (sym (l .second) ∙ z)), ne-eqb _ _ (λ z. k (sym (l .third) ∙ z)))
 
 -- ---- set
 
@@ -155,8 +158,8 @@ module _ (path : List ℕ) where
         (λ n e. hops-of two-swapped ∙ two-hops _ _ _ ∙ sym (hops-of (own-lengths path)))
         (λ n k. hops-of three-swapped ∙ three-hops _ _ _ ∙ sym (hops-of (own-lengths path)))
 
-    pub swapped-used : (seg0Len path ≡ 0 → ⊥) → usedSegments (swapLengths path) ≡ usedSegments path
+    pub swapped-used : (seg0Len path ≡ 0 → ⊥) → segmentCount (swapLengths path) ≡ segmentCount path
     swapped-used m =
-        by-used (λ l. usedSegments l ≡ usedSegments path) (λ e. refl)
+        by-used (λ l. segmentCount l ≡ segmentCount path) (λ e. refl)
         (λ n e. two-of two-swapped n m e ∙ sym (two-of (own-lengths path) m n e))
         (λ n k. three-of three-swapped k n m ∙ sym (three-of (own-lengths path) m n k))

@@ -10,7 +10,8 @@ use lib.ListN.{length}
 use borrow.Author.Tests.{leb-true, leb-false, eqb-false, eq-eqb, ne-eqb, le-leb, lt-leb}
 use Rattle.standard_path.specs.Fields.{currInf, currHf, seg0Len}
 use Rattle.standard_path.specs.Header.{hops, headerSize, metaThere, fieldsThere, hopsFew, headerCheck}
-use Rattle.reverse.specs.Reverse.{usedSegments, reverseAsked, reverseAnswer}
+use Rattle.segments.specs.Segments.{segmentCount}
+use Rattle.reverse.specs.Reverse.{reverseAsked, reverseAnswer}
 use Rattle.standard_path.specs.declared.view.HeaderCheck.{HeaderCheck}
 use Rattle.standard_path.specs.declared.view.HeaderCheck.the-variants.{Complete, MetaTooShort, DataTooShort, TooManyHops}
 use Rattle.reverse.specs.declared.Reversal.the-variants.{Reversed, Failed}
@@ -27,7 +28,7 @@ pub record Reversible (path : List ℕ) : Type 0 where
   pub complete : headerCheck path ≡ Complete
   pub segments : seg0Len path ≡ 0 → ⊥
   pub hop : currHf path < hops path
-  pub info : currInf path < usedSegments path
+  pub info : currInf path < segmentCount path
 
 module _ (path : List ℕ) where
   pub whole : headerCheck path ≡ Complete → Whole path
@@ -48,23 +49,23 @@ module _ (path : List ℕ) where
   unfolding reverseAsked
   hop-out-of-bounds n h = simp (ne-eqb _ _ n, le-leb _ _ h)
 
-  pub info-out-of-bounds : (seg0Len path ≡ 0 → ⊥) → currHf path < hops path → usedSegments path ≤ currInf path
+  pub info-out-of-bounds : (seg0Len path ≡ 0 → ⊥) → currHf path < hops path → segmentCount path ≤ currInf path
       → Failed InfoOutOfBounds ≡ reverseAsked path
   unfolding reverseAsked
   info-out-of-bounds n h i = simp (ne-eqb _ _ n, lt-leb _ _ h, le-leb _ _ i)
 
-  pub all-answered : (seg0Len path ≡ 0 → ⊥) → currHf path < hops path → currInf path < usedSegments path → Reversed ≡ reverseAsked path
+  pub all-answered : (seg0Len path ≡ 0 → ⊥) → currHf path < hops path → currInf path < segmentCount path → Reversed ≡ reverseAsked path
   unfolding reverseAsked
   all-answered n h i = simp (ne-eqb _ _ n, lt-leb _ _ h, lt-leb _ _ i)
 
   pub reversible : reverseAnswer path ≡ Reversed → Reversible path
   unfolding reverseAnswer reverseAsked
   reversible e =
-      go (headerCheck path) (eqb (seg0Len path) 0) (leb (hops path) (currHf path)) (leb (usedSegments path) (currInf path))
+      go (headerCheck path) (eqb (seg0Len path) 0) (leb (hops path) (currHf path)) (leb (segmentCount path) (currInf path))
       refl refl refl refl
     where
       go : (header : HeaderCheck) (none hop info : Bool) → headerCheck path ≡ header → eqb (seg0Len path) 0 ≡ none
-          → leb (hops path) (currHf path) ≡ hop → leb (usedSegments path) (currInf path) ≡ info → Reversible path
+          → leb (hops path) (currHf path) ≡ hop → leb (segmentCount path) (currInf path) ≡ info → Reversible path
       go MetaTooShort none hop info p q r t = let z : _≡_ {A = ℕ} 0 1 = cc in absurd (omega arith)
       go DataTooShort none hop info p q r t = let z : _≡_ {A = ℕ} 0 1 = cc in absurd (omega arith)
       go TooManyHops none hop info p q r t = let z : _≡_ {A = ℕ} 0 1 = cc in absurd (omega arith)

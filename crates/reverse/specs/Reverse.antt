@@ -10,6 +10,7 @@ use Rattle.standard_path.specs.Fields.{currInf, currHf, seg0Len, seg1Len, seg2L
 use Rattle.standard_path.specs.Header.{infos, hops, headerCheck}
 use Rattle.standard_path.specs.declared.view.HeaderCheck.{HeaderCheck}
 use Rattle.standard_path.specs.declared.view.HeaderCheck.the-variants as header
+use Rattle.segments.specs.Segments.{segmentCount}
 use Rattle.reverse.specs.declared.Reversal.{Reversal}
 use Rattle.reverse.specs.declared.Reversal.the-variants.{Reversed, Failed}
 use Rattle.reverse.specs.declared.PathReverseError.{PathReverseError}
@@ -26,14 +27,6 @@ reverseNumber HopOutOfBounds = 21
 reverseNumber InfoOutOfBounds = 22
 
 -- ---- the lengths
-
--- the segments before the first zero length
-unfoldable pub usedSegments : List ℕ → ℕ
-usedSegments path =
-    cond (eqb (seg0Len path) 0) 0
-    (cond (eqb (seg1Len path) 0) 1
-    (cond (eqb (seg2Len path) 0) 2
-    3))
 
 -- lengths below 64 into the meta word; its reserved bits stay
 unfoldable pub setLengths : List ℕ → ℕ → ℕ → ℕ → List ℕ
@@ -93,14 +86,14 @@ reversed path =
     setCurrInf (setCurrHf
     (reverseParts (infos path) (hops path) (swapLengths path))
     (hops path - 1 - currHf path))
-    (usedSegments path - 1 - currInf path)
+    (segmentCount path - 1 - currInf path)
 
 -- 01, 'Questions in order', of a complete header: 20, 21 and 22
 unfoldable pub reverseAsked : List ℕ → Reversal
 reverseAsked path =
     cond (eqb (seg0Len path) 0) (Failed NoSegments)
     (cond (leb (hops path) (currHf path)) (Failed HopOutOfBounds)
-    (cond (leb (usedSegments path) (currInf path)) (Failed InfoOutOfBounds)
+    (cond (leb (segmentCount path) (currInf path)) (Failed InfoOutOfBounds)
     Reversed))
 
 -- questions 2, 3 and 4 come first

@@ -12,7 +12,7 @@ use standard_path::view::HeaderCheck;
 ghost use mathlib.Core.Path.{_≡_};
 ghost use Prim.Native.Nat.{_+_, _*_, _<_, _≤_};
 ghost use Rattle.standard_path.specs.Layout.{hopOffset};
-ghost use Rattle.reverse.specs.Reverse.{usedSegments, setLengths, swapLengths, toggleConsDirs};
+ghost use Rattle.reverse.specs.Reverse.{setLengths, swapLengths, toggleConsDirs};
 ghost use Rattle.reverse.specs.Reverse.{swapFields, reverseFields, reverseParts, reversed};
 ghost use Rattle.reverse.specs.Reverse.{reverseNumber, reverseAsked, reverseAnswer, bytesLeft, reverseBytes};
 ghost use Rattle.reverse.specs.declared.Reversal.the-variants.{Reversed, Failed};
@@ -47,22 +47,6 @@ pub fn reverse_number(error: PathReverseError) -> u8
 }
 
 // ---- the lengths
-
-// The segments before the first zero length.
-fn used_segments(path: &[u8]) -> u8
-    ensures { λ r. ⌜ r ≡ usedSegments (now (path .entry)) ⌝ }
-{
-    if view::seg0_len(path) == 0 {
-        return 0;
-    }
-    if view::seg1_len(path) == 0 {
-        return 1;
-    }
-    if view::seg2_len(path) == 0 {
-        return 2;
-    }
-    3
-}
 
 fn set_lengths(path: &mut [u8], seg0: u8, seg1: u8, seg2: u8)
     requires { ⌜ (seg0 < 64) × ((seg1 < 64) × (seg2 < 64)) ⌝ }
@@ -171,7 +155,7 @@ fn asked(path: &[u8]) -> Reversal
     if view::hop_field_count(path) <= view::curr_hop_field_idx(path) {
         return Reversal::Failed(PathReverseError::HopOutOfBounds);
     }
-    if used_segments(path) <= view::curr_info_field_idx(path) {
+    if segments::segment_count(path) <= view::curr_info_field_idx(path) {
         return Reversal::Failed(PathReverseError::InfoOutOfBounds);
     }
     Reversal::Reversed
@@ -196,7 +180,7 @@ fn turn_around(path: &mut [u8])
     let infos = view::info_field_count(path);
     let hops = view::hop_field_count(path);
     let new_hop = hops - 1 - view::curr_hop_field_idx(path);
-    let new_info = used_segments(path) - 1 - view::curr_info_field_idx(path);
+    let new_info = segments::segment_count(path) - 1 - view::curr_info_field_idx(path);
     swap_lengths(path);
     reverse_parts(path, infos, hops);
     view::set_curr_hop_field(path, new_hop);
