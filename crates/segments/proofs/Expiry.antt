@@ -37,6 +37,12 @@ left-none l = omega (arith, l .same)
 
 -- the times of a list by a rule, from the i-th to the end
 module _ (f : ℕ → ℕ) (first : ℕ) where
+  pub times-all : (i end : ℕ) → i ≡ 0 → Left (tabulate end first f) 4294967295 (tabulate (end - i) (first + i) f)
+  times-all i end h =
+      let left : end - i ≡ end = omega arith in
+      let start : first + i ≡ first = omega arith in
+      rw (left, start) (left-all (tabulate end first f))
+
   pub times-more : (i end : ℕ) → i < end → tabulate (end - i) (first + i) f ≡ f (first + i) ∷ tabulate (end - (i + 1)) (first + (i + 1)) f
   times-more i end h =
       let e : end - i ≡ suc (end - (i + 1)) = omega arith in

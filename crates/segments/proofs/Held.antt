@@ -39,6 +39,9 @@ module _ (α : NamedLft) (d : SegmentIterator) where
   takes-path 𝓤 H A W =
       qed W (‵ IterOwn ∷ []) ∵
       use1 W (‵ IterOwn ⊛ ‵ IterOwn) (LL.copy (T.the-type α) (T′.the-copy α) 𝓤 H A W .twice d (iterVal d ∷ [])) $ split ! $
-      use1 W (given (iterVal d ∷ [] ≡ iterVal d ∷ []) (‵ (all-own (T.the-type α .parts) (T′.the-laws α) (d .path, (d .place, tt))))) (own-open 𝓤 H A W (T.the-type α) (T′.the-laws α) (d .path, (d .place, tt)) (iterVal d)) $ learn ! (λ _.
-      use1 W (‵ (ownAt (T.the-type α .parts) (T′.the-laws α) 0 (d .path)) ⊛ ‵ (rest (T.the-type α .parts) (T′.the-laws α) 0 (d .path, (d .place, tt)))) (own-out 𝓤 H A W (T.the-type α .parts) (T′.the-laws α) 0 (d .path, (d .place, tt))) $ split ! $
+      use1 W (given (iterVal d ∷ [] ≡ iterVal d ∷ []) (‵ (all-own (T.the-type α .parts) (T′.the-laws α) (d .path, (d .place, tt)))))
+      (own-open 𝓤 H A W (T.the-type α) (T′.the-laws α) (d .path, (d .place, tt)) (iterVal d)) $ learn ! (λ _.
+      use1 W (‵ (ownAt (T.the-type α .parts) (T′.the-laws α) 0 (d .path))
+      ⊛ ‵ (rest (T.the-type α .parts) (T′.the-laws α) 0 (d .path, (d .place, tt))))
+      (own-out 𝓤 H A W (T.the-type α .parts) (T′.the-laws α) 0 (d .path, (d .place, tt))) $ split ! $
       move ! (1 ∷ []) $ drop ! $ done !)

@@ -144,8 +144,8 @@ pub fn place_after(place: SegmentPlace, step: SegmentStep) -> SegmentPlace
 
 // It is plain data but for the path, so a copy of it is a walk of its own.
 pub struct SegmentIterator<'a> {
-    pub path: &'a [u8],
-    pub place: SegmentPlace,
+    path: &'a [u8],
+    place: SegmentPlace,
 }
 
 impl<'a> SegmentIterator<'a> {

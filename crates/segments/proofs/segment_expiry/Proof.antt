@@ -1,11 +1,10 @@
 use borrow.Author.Needs.{needs}
-use mathlib.Core.Path.{_≡_}
+use mathlib.Core.Path.{refl}
 use Prim.Native.Nat.{_+_, _-_}
-use native.Mathlib.Omega.{arith}
 use denote.Ref.{now}
 use Rattle.octets.specs.Bytes.{tabulate}
 use Rattle.segments.specs.Segments.{hopExpiry, segmentExpiry}
-use Rattle.segments.proofs.Expiry.{Left, left-all, left-more, left-none, times-more, times-none, hop-time}
+use Rattle.segments.proofs.Expiry.{Left, left-more, left-none, times-all, times-more, times-none, hop-time}
 use Rattle.segments.proofs.segment_expiry.Statement.{statement}
 use Rattle.segments.proofs.segment_expiry.Tie as tie
 
@@ -19,9 +18,7 @@ abbrev μ-loop : tie.MeasureT-loop
 loop-holds : tie.Need-loop-holds Inv-loop μ-loop
 loop-holds c =
     let a = c .before .before .before .args in
-    let none : a .hop-count - 0 ≡ a .hop-count = omega arith in
-    let start : a .first-hop + 0 ≡ a .first-hop = omega arith in
-    rw (none, start) (left-all _)
+    times-all (hopExpiry (now (a .path)) (a .info-idx)) (a .first-hop) 0 (a .hop-count) refl
 
 loop-again : tie.Need-loop-again Inv-loop μ-loop
 loop-again c =
