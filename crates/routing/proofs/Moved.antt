@@ -101,7 +101,7 @@ module _ (ids states : List ℕ) (mac : MacFunction) where
       ingress-move-holds path
       (ltb-true _ _ (first-yes _ _ _ (rest-yes _ _ _ (rest-yes _ _ _ (rest-yes _ _ _ e)))))
       (ltb-true _ _ (first-yes _ _ _ e))
-      (at .interface)
+      (at .«current_interface_id»)
       (changes path))
 
   pub egress-holds : (at : StandardValidator) (path : List ℕ) → Holds path (egress ids states mac at path .bytes)
@@ -112,7 +112,7 @@ module _ (ids states : List ℕ) (mac : MacFunction) where
       egress-move-holds path (ltb-true _ _ (first-yes _ _ _ (rest-yes _ _ _ (rest-yes _ _ _ e)))) (ltb-true _ _ (first-yes _ _ _ e)))
 
   leave-holds : (at : StandardValidator) (path : List ℕ) → Holds path (leave ids states mac at path .bytes)
-  leave-holds at path = go (firstNo (leavingQuestions (stateOf ids states (at .interface)) (at .interface) path))
+  leave-holds at path = go (firstNo (leavingQuestions (stateOf ids states (at .«current_interface_id»)) (at .«current_interface_id») path))
     where
       go : (first : Validation) → Holds path (asks Stopped first path (egress ids states mac at path) .bytes)
       go (Invalid why) = holds-self path

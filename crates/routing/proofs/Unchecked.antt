@@ -4,47 +4,49 @@ use mathlib.Core.Path.{_≡_, refl, _∙_}
 use mathlib.Core.Bool.{Bool, true, false}
 use mathlib.Core.List.{List, [], _++_}
 use Prim.Native.Nat.{ℕ, _+_}
-use lib.ListN.{take, drop}
 use Rattle.standard_path.specs.Fields.{currHf, segId}
 use Rattle.validator.specs.Questions.{Questions, firstNo}
-use Rattle.validator.specs.Check.{MacFunction, hopQuestions}
+use Rattle.validator.specs.Check.{MacFunction, fieldQuestions, macQuestions, hopQuestions}
 use Rattle.validator.specs.declared.check.StandardValidator.{StandardValidator}
 use Rattle.validator.specs.declared.answer.Validation.the-variants.{Valid}
 use Rattle.validator.specs.declared.answer.IngressNextAction.{IngressNextAction}
 use Rattle.validator.specs.declared.answer.IngressNextAction.the-variants.{ContinueEgress, Complete, Refused}
 use Rattle.validator.proofs.Asked.{goes-on, ends-yes, none-asked}
 use Rattle.routing.specs.Place.{changes}
-use Rattle.routing.specs.Ingress.{hop, info, nextHop, nextInfo, ingressSegId, nextQuestions, ingressQuestions, ingress}
+use Rattle.routing.specs.Ingress.{hop, info, nextHop, nextInfo, ingressSegId, nextFieldQuestions, nextQuestions, ingressQuestions, ingress}
 use Rattle.routing.specs.Egress.{egressQuestions, egress}
 use Rattle.routing.specs.Step.{atIngress, atEgress, stepFrom, step}
 
 -- ---- 12 is a yes, so that what is asked without it decides
 
-module _ (mac : MacFunction) (at : StandardValidator) (ignored : at .unchecked ≡ true) where
+module _ (mac : MacFunction) (at : StandardValidator) (ignored : at .«ignore_macs» ≡ true) where
   mac-unasked : (index : ℕ) (hop info : List ℕ) (segId : ℕ) (more : Questions)
-      → firstNo (drop 3 (hopQuestions mac at index hop info segId) ++ more) ≡ firstNo more
+      → firstNo (macQuestions mac (at .«ignore_macs») index hop info segId ++ more) ≡ firstNo more
   unfolding firstNo
   mac-unasked index hop info segId more = rw ignored
 
-  hop-unasked : (index : ℕ) (hop info : List ℕ) (segId : ℕ) (more : Questions) → firstNo (take 3 (hopQuestions mac at index hop info segId)) ≡ Valid
+  hop-unasked : (index : ℕ) (hop info : List ℕ) (segId : ℕ) (more : Questions) → firstNo (fieldQuestions at index hop info) ≡ Valid
       → firstNo (hopQuestions mac at index hop info segId ++ more) ≡ firstNo more
   hop-unasked index hop info segId more e =
-      let asked = hopQuestions mac at index hop info segId in
-      goes-on (take 3 asked) (drop 3 asked ++ more) e ∙ mac-unasked index hop info segId more
+      goes-on (fieldQuestions at index hop info) (macQuestions mac (at .«ignore_macs») index hop info segId ++ more) e
+      ∙ mac-unasked index hop info segId more
 
-  pub ingress-stays : (ids states path : List ℕ) → firstNo (take 3 (ingressQuestions ids states mac at path false)) ≡ Valid
-      → firstNo (ingressQuestions ids states mac at path false) ≡ Valid
-  ingress-stays ids states path e = hop-unasked (currHf path) (hop path) (info path) (ingressSegId path (at .interface)) [] e ∙ none-asked
+  module _ (path : List ℕ) (asked : firstNo (fieldQuestions at (currHf path) (hop path) (info path)) ≡ Valid) where
+    pub ingress-stays : (ids states : List ℕ) → firstNo (ingressQuestions ids states mac at path false) ≡ Valid
+    ingress-stays ids states =
+        hop-unasked (currHf path) (hop path) (info path) (ingressSegId path (at .«current_interface_id»)) [] asked ∙ none-asked
 
-  pub ingress-changes : (ids states path : List ℕ) → firstNo (take 3 (ingressQuestions ids states mac at path true)) ≡ Valid
-      → firstNo (ingressQuestions ids states mac at path true) ≡ firstNo (take 8 (nextQuestions ids states mac at path))
-  ingress-changes ids states path e =
-      let next = nextQuestions ids states mac at path in
-      hop-unasked (currHf path) (hop path) (info path) (ingressSegId path (at .interface)) next e
-      ∙ ends-yes (take 8 next) (drop 8 next) (mac-unasked (currHf path + 1) (nextHop path) (nextInfo path) (segId (nextInfo path)) [] ∙ none-asked)
+    pub ingress-changes : (ids states : List ℕ)
+        → firstNo (ingressQuestions ids states mac at path true) ≡ firstNo (nextFieldQuestions ids states at path)
+    ingress-changes ids states =
+        let last = macQuestions mac (at .«ignore_macs») (currHf path + 1) (nextHop path) (nextInfo path) (segId (nextInfo path)) in
+        hop-unasked (currHf path) (hop path) (info path) (ingressSegId path (at .«current_interface_id»))
+        (nextQuestions ids states mac at path) asked
+        ∙ ends-yes (nextFieldQuestions ids states at path) last
+        (mac-unasked (currHf path + 1) (nextHop path) (nextInfo path) (segId (nextInfo path)) [] ∙ none-asked)
 
-  pub egress-stays : (path : List ℕ) → firstNo (take 3 (egressQuestions mac at path)) ≡ Valid → firstNo (egressQuestions mac at path) ≡ Valid
-  egress-stays path e = hop-unasked (currHf path) (hop path) (info path) (segId (info path)) [] e ∙ none-asked
+    pub egress-stays : firstNo (egressQuestions mac at path) ≡ Valid
+    egress-stays = hop-unasked (currHf path) (hop path) (info path) (segId (info path)) [] asked ∙ none-asked
 
 -- ---- whatever the MACs are
 

@@ -9,7 +9,7 @@ use Rattle.standard_path.specs.Fields.{currInf, currHf, setCurrInf, setCurrHf, 
 use Rattle.standard_path.specs.Header.{infoField, hopField}
 use Rattle.standard_path.specs.Moves.{setSegId, clearIngressAlert}
 use Rattle.validator.specs.Questions.{Questions, firstNo}
-use Rattle.validator.specs.Check.{MacFunction, hopQuestions, changeQuestions}
+use Rattle.validator.specs.Check.{MacFunction, fieldQuestions, macQuestions, hopQuestions, changeQuestions}
 use Rattle.validator.specs.declared.check.StandardValidator.{StandardValidator}
 use Rattle.validator.specs.declared.answer.Validation.{Validation}
 use Rattle.validator.specs.declared.answer.Validation.the-variants.{Valid, Invalid}
@@ -50,14 +50,20 @@ ingressSegId path interface = cond (stepsAtIngress path interface) (steppedSegId
 
 -- ---- 9 to 12, and at a segment change 13 to 16 and 9 to 12 for the next hop
 
+-- all but the next hop's 12
+abbrev pub nextFieldQuestions : List ℕ → List ℕ → StandardValidator → List ℕ → Questions
+nextFieldQuestions ids states at path =
+    changeQuestions ids states (currHf path) (hop path) (info path) (nextHop path) (nextInfo path)
+    ++ fieldQuestions at (currHf path + 1) (nextHop path) (nextInfo path)
+
 abbrev pub nextQuestions : List ℕ → List ℕ → MacFunction → StandardValidator → List ℕ → Questions
 nextQuestions ids states mac at path =
-    changeQuestions ids states (currHf path) (hop path) (info path) (nextHop path) (nextInfo path)
-    ++ hopQuestions mac at (currHf path + 1) (nextHop path) (nextInfo path) (segId (nextInfo path))
+    nextFieldQuestions ids states at path
+    ++ macQuestions mac (at .«ignore_macs») (currHf path + 1) (nextHop path) (nextInfo path) (segId (nextInfo path))
 
 abbrev pub ingressQuestions : List ℕ → List ℕ → MacFunction → StandardValidator → List ℕ → Bool → Questions
 ingressQuestions ids states mac at path change =
-    hopQuestions mac at (currHf path) (hop path) (info path) (ingressSegId path (at .interface))
+    hopQuestions mac at (currHf path) (hop path) (info path) (ingressSegId path (at .«current_interface_id»))
     ++ cond change (nextQuestions ids states mac at path) []
 
 -- ---- the move: the beta step, the travel-ingress alert cleared, both indices up at a segment change
@@ -109,6 +115,6 @@ ingress ids states mac at path =
     (record {
       answer =
           decided (firstNo (ingressQuestions ids states mac at path (changes path)))
-          (ingressAction path (at .interface) (changes path) (isFinal path));
-      bytes = ingressMove path (at .interface) (changes path);
+          (ingressAction path (at .«current_interface_id») (changes path) (isFinal path));
+      bytes = ingressMove path (at .«current_interface_id») (changes path);
     }))

@@ -27,10 +27,10 @@ keyMac key = λ segId start units ingress egress. hopMac segId start units ingre
 
 -- where the checks are made: at ingress or egress, on which interface, when, and whether MACs are ignored
 abbrev pub atIngress : ℕ → ℕ → Bool → StandardValidator
-atIngress interface time unchecked = record { ingress = true; interface = interface; time = time; unchecked = unchecked }
+atIngress interface time ignored = record { ingress = true; «current_interface_id» = interface; time = time; «ignore_macs» = ignored }
 
 abbrev pub atEgress : ℕ → ℕ → Bool → StandardValidator
-atEgress interface time unchecked = record { ingress = false; interface = interface; time = time; unchecked = unchecked }
+atEgress interface time ignored = record { ingress = false; «current_interface_id» = interface; time = time; «ignore_macs» = ignored }
 
 abbrev pub isUpListed : Listed → Bool
 isUpListed (State state) = isUp state
@@ -46,7 +46,7 @@ leavingQuestions listed out path =
 -- 15 and 17, then egress
 abbrev pub leave : List ℕ → List ℕ → MacFunction → StandardValidator → List ℕ → Outcome StepAnswer
 leave ids states mac at path =
-    asks Refused (firstNo (leavingQuestions (stateOf ids states (at .interface)) (at .interface) path)) path
+    asks Refused (firstNo (leavingQuestions (stateOf ids states (at .«current_interface_id»)) (at .«current_interface_id») path)) path
     (egress ids states mac at path)
 
 -- the answer of an ingress that does not go on. `stepFrom` asks it of no other; the last line is there since a function has to answer
@@ -57,12 +57,12 @@ finished (ContinueEgress out) = Action (ForwardNextHop out)
 
 -- from what ingress answered, on the bytes that it left
 unfoldable pub stepFrom : IngressNextAction → List ℕ → List ℕ → MacFunction → ℕ → Bool → List ℕ → Outcome StepAnswer
-stepFrom (ContinueEgress out) ids states mac time unchecked path = leave ids states mac (atEgress out time unchecked) path
-stepFrom (Complete action) ids states mac time unchecked path = record { answer = finished (Complete action); bytes = path }
-stepFrom (Stopped why) ids states mac time unchecked path = record { answer = finished (Stopped why); bytes = path }
+stepFrom (ContinueEgress out) ids states mac time ignored path = leave ids states mac (atEgress out time ignored) path
+stepFrom (Complete action) ids states mac time ignored path = record { answer = finished (Complete action); bytes = path }
+stepFrom (Stopped why) ids states mac time ignored path = record { answer = finished (Stopped why); bytes = path }
 
 -- the whole step of an AS on a path: its table, the hop MAC under its key, the interface that the packet came in by, the time
 unfoldable pub step : List ℕ → List ℕ → MacFunction → ℕ → ℕ → Bool → List ℕ → Outcome StepAnswer
-step ids states mac interface time unchecked path =
-    let outcome = ingress ids states mac (atIngress interface time unchecked) path in
-    stepFrom (outcome .answer) ids states mac time unchecked (outcome .bytes)
+step ids states mac interface time ignored path =
+    let outcome = ingress ids states mac (atIngress interface time ignored) path in
+    stepFrom (outcome .answer) ids states mac time ignored (outcome .bytes)

@@ -37,7 +37,7 @@ fn validate_egress(forwarding_key: &[u8; 16], at: StandardValidator, path: &[u8]
     let Validation::Valid = here else {
         return here;
     };
-    if at.unchecked {
+    if at.ignore_macs {
         return Validation::Valid;
     }
     let table = aes::round_table();

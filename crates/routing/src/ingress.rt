@@ -22,11 +22,10 @@ use validator::check::validate_mac;
 use validator::check::validate_segment_change;
 ghost use mathlib.Core.Path.{_≡_};
 ghost use mathlib.Core.Bool.{false};
-ghost use lib.ListN.{take, drop};
+ghost use lib.ListN.{drop};
 ghost use Rattle.validator.specs.Questions.{firstNo};
-ghost use Rattle.validator.specs.Check.{MacFunction};
 ghost use Rattle.routing.specs.Ingress.{nextHop, nextInfo, steppedSegId, stepped, stepsAtIngress, ingressSegId};
-ghost use Rattle.routing.specs.Ingress.{nextQuestions, ingressQuestions};
+ghost use Rattle.routing.specs.Ingress.{nextFieldQuestions, ingressQuestions};
 ghost use Rattle.routing.specs.Ingress.{ingressFields, ingressMove, alertsAtIngress, leaving, ingressAction, decided, ingress};
 ghost use Rattle.routing.specs.Step.{keyMac};
 
@@ -74,8 +73,7 @@ fn ingress_segment_id(path: &[u8], interface: u16) -> u16
 
 // Questions 13 to 16, and 9 to 11 for the next hop.
 fn validate_next(ids: &[u16], states: &[u8], at: StandardValidator, path: &[u8]) -> Validation
-    ensures { λ r. ⌜ ((mac : MacFunction) → r ≡ firstNo (take 8 (nextQuestions (now (ids .entry)) (now (states .entry)) mac at
-        (now (path .entry))))) ⌝ }
+    ensures { λ r. ⌜ r ≡ firstNo (nextFieldQuestions (now (ids .entry)) (now (states .entry)) at (now (path .entry))) ⌝ }
 {
     let hop_index = view::curr_hop_field_idx(path);
     let next_hop = next_hop_field(path);
@@ -104,7 +102,7 @@ fn validate_checked(
     path: &[u8],
     change: bool,
 ) -> Validation
-    requires { ⌜ at .unchecked ≡ false ⌝ }
+    requires { ⌜ at .«ignore_macs» ≡ false ⌝ }
     ensures { λ r. ⌜ r ≡ firstNo (drop 3 (ingressQuestions (now (ids .entry)) (now (states .entry)) (keyMac (now («forwarding_key» .entry)))
         at (now (path .entry)) change)) ⌝ }
 {
@@ -119,7 +117,7 @@ fn validate_checked(
         hop_index,
         view::curr_hop_field(path),
         view::curr_info_field(path),
-        ingress_segment_id(path, at.interface),
+        ingress_segment_id(path, at.current_interface_id),
     );
     let Validation::Valid = here else {
         return here;
@@ -164,7 +162,7 @@ fn validate_ingress(
     let Validation::Valid = here else {
         return here;
     };
-    if !at.unchecked {
+    if !at.ignore_macs {
         return validate_checked(ids, states, forwarding_key, at, path, change);
     }
     if change {
@@ -263,10 +261,10 @@ fn decide_ingress(
 ) -> IngressNextAction
     ensures { λ r. ⌜ r ≡ decided (firstNo (ingressQuestions (now (ids .entry)) (now (states .entry))
         (keyMac (now («forwarding_key» .entry))) at (now (path .entry)) change))
-        (ingressAction (now (path .entry)) (at .interface) change last) ⌝ }
+        (ingressAction (now (path .entry)) (at .«current_interface_id») change last) ⌝ }
 {
     match validate_ingress(ids, states, forwarding_key, at, path, change) {
-        Validation::Valid => ingress_action(path, at.interface, change, last),
+        Validation::Valid => ingress_action(path, at.current_interface_id, change, last),
         Validation::Invalid(why) => IngressNextAction::Refused(why),
     }
 }
@@ -282,11 +280,11 @@ fn ingress_here(
 ) -> IngressNextAction
     ensures { λ r. ⌜ r ≡ decided (firstNo (ingressQuestions (now (ids .entry)) (now (states .entry))
         (keyMac (now («forwarding_key» .entry))) at (now (path .entry)) change))
-        (ingressAction (now (path .entry)) (at .interface) change last) ⌝ }
-    ensures { λ _. ⌜ now (path .exit) ≡ ingressMove (now (path .entry)) (at .interface) change ⌝ }
+        (ingressAction (now (path .entry)) (at .«current_interface_id») change last) ⌝ }
+    ensures { λ _. ⌜ now (path .exit) ≡ ingressMove (now (path .entry)) (at .«current_interface_id») change ⌝ }
 {
     let answer = decide_ingress(ids, states, forwarding_key, at, path, change, last);
-    move_ingress(path, at.interface, change);
+    move_ingress(path, at.current_interface_id, change);
     answer
 }
 

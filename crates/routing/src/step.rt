@@ -39,9 +39,9 @@ pub fn standard_path_ingress(
 {
     let at = StandardValidator {
         ingress: true,
-        interface: ingress_interface_id,
+        current_interface_id: ingress_interface_id,
         time,
-        unchecked: ignore_macs,
+        ignore_macs,
     };
     ingress::advance_ingress(ids, states, forwarding_key, at, path)
 }
@@ -62,9 +62,9 @@ pub fn standard_path_egress(
 {
     let at = StandardValidator {
         ingress: false,
-        interface: egress_if_id,
+        current_interface_id: egress_if_id,
         time,
-        unchecked: ignore_macs,
+        ignore_macs,
     };
     egress::advance_egress(ids, states, forwarding_key, at, path)
 }

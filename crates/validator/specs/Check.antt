@@ -2,7 +2,7 @@
 -- Assumes nothing.
 use Prim.Native.Nat.{ℕ, _+_, _*_}
 use mathlib.Core.Bool.{Bool, true, false, not, _||_, cond}
-use mathlib.Core.List.{List, [], _∷_}
+use mathlib.Core.List.{List, [], _∷_, _++_}
 use lib.Dec.{eqb, leb}
 use lib.ListN.{getD, take}
 use Rattle.octets.specs.Bytes.{be16At, be32At}
@@ -34,30 +34,37 @@ macNumber mac = be16At mac 0 * 4294967296 + be32At mac 2
 abbrev pub interfaceFits : StandardValidator → List ℕ → List ℕ → Bool
 interfaceFits at hop info =
     cond (at .ingress)
-    (eqb (at .interface) 0 || eqb (travelIngress (consDir info) hop) 0 || eqb (travelIngress (consDir info) hop) (at .interface))
-    (eqb (travelEgress (consDir info) hop) (at .interface))
+    (eqb (at .«current_interface_id») 0 || eqb (travelIngress (consDir info) hop) 0 || eqb (travelIngress (consDir info) hop) (at .«current_interface_id»))
+    (eqb (travelEgress (consDir info) hop) (at .«current_interface_id»))
 
 abbrev pub wrongInterface : StandardValidator → ℕ → List ℕ → List ℕ → StandardRoutingError
 wrongInterface at index hop info =
     cond (at .ingress)
-    (InvalidIngressInterface index (at .interface) (travelIngress (consDir info) hop) (consDir info))
-    (InvalidEgressInterface index (at .interface) (travelEgress (consDir info) hop) (consDir info))
+    (InvalidIngressInterface index (at .«current_interface_id») (travelIngress (consDir info) hop) (consDir info))
+    (InvalidEgressInterface index (at .«current_interface_id») (travelEgress (consDir info) hop) (consDir info))
 
 -- the MAC that the hop should have, with this SegID
 abbrev pub rightMac : MacFunction → List ℕ → List ℕ → ℕ → ℕ
 rightMac mac hop info segId = macNumber (mac segId (timestamp info) (expTime hop) (consIngress hop) (consEgress hop))
 
--- 9 to 12 at ingress, 19 and 10 to 12 at egress, of the hop with this index
-abbrev pub hopQuestions : MacFunction → StandardValidator → ℕ → List ℕ → List ℕ → ℕ → Questions
-hopQuestions mac at index hop info segId =
+-- 9 to 11 at ingress, 19, 10 and 11 at egress, of the hop with this index
+abbrev pub fieldQuestions : StandardValidator → ℕ → List ℕ → List ℕ → Questions
+fieldQuestions at index hop info =
     (interfaceFits at hop info, wrongInterface at index hop info)
     ∷ (leb (timestamp info) (at .time), FutureTimestamp index)
     ∷ (leb (at .time) (expiry (timestamp info) (expTime hop)), SegmentExpired index)
-    ∷ (
-      at .unchecked || eqb (rightMac mac hop info segId) (macNumber (macField hop)),
-      InvalidMacError index (rightMac mac hop info segId) (macNumber (macField hop)),
-    )
     ∷ []
+
+-- 12: 'MAC right, or MACs ignored?'
+abbrev pub macQuestions : MacFunction → Bool → ℕ → List ℕ → List ℕ → ℕ → Questions
+macQuestions mac ignored index hop info segId = (
+  ignored || eqb (rightMac mac hop info segId) (macNumber (macField hop)),
+  InvalidMacError index (rightMac mac hop info segId) (macNumber (macField hop)),
+)
+    ∷ []
+
+abbrev pub hopQuestions : MacFunction → StandardValidator → ℕ → List ℕ → List ℕ → ℕ → Questions
+hopQuestions mac at index hop info segId = fieldQuestions at index hop info ++ macQuestions mac (at .«ignore_macs») index hop info segId
 
 abbrev pub isListed : Listed → Bool
 isListed (State state) = true

@@ -11,20 +11,18 @@ use standard_path::mac::calculate_hop_mac_with;
 use standard_path::view;
 ghost use mathlib.Core.Path.{_≡_};
 ghost use mathlib.Core.Bool.{_||_, false};
-ghost use Prim.Native.Nat.{ℕ, _+_, _*_};
+ghost use Prim.Native.Nat.{_+_, _*_};
 ghost use lib.Dec.{eqb};
-ghost use lib.ListN.{take, drop};
-ghost use Rattle.validator.specs.declared.check.StandardValidator.{StandardValidator};
 ghost use Rattle.validator.specs.Questions.{firstNo};
-ghost use Rattle.validator.specs.Check.{MacFunction, scheduleMac, macNumber, interfaceFits, wrongInterface, rightMac, hopQuestions};
+ghost use Rattle.validator.specs.Check.{scheduleMac, macNumber, interfaceFits, wrongInterface, rightMac, fieldQuestions, macQuestions};
 ghost use Rattle.validator.specs.Check.{linkQuestions, changeQuestions};
 
 // Where a hop is checked: at ingress or at egress, on which interface, when, and whether its MAC is not asked for.
 pub struct StandardValidator {
     pub ingress: bool,
-    pub interface: u16,
+    pub current_interface_id: u16,
     pub time: u32,
-    pub unchecked: bool,
+    pub ignore_macs: bool,
 }
 
 fn join(high: u16, low: u32) -> u64
@@ -81,15 +79,18 @@ impl StandardValidator {
         ensures { λ r. ⌜ r ≡ interfaceFits self (now (hop .entry)) (now (info .entry)) ⌝ }
     {
         if self.ingress {
-            return arrives(self.interface, view::ingress_interface(hop, info));
+            return arrives(
+                self.current_interface_id,
+                view::ingress_interface(hop, info),
+            );
         }
-        view::egress_interface(hop, info) == self.interface
+        view::egress_interface(hop, info) == self.current_interface_id
     }
 
     fn wrong_interface(self, hop_index: u8, hop: &[u8], info: &[u8]) -> StandardRoutingError
         ensures { λ r. ⌜ r ≡ wrongInterface self «hop_index» (now (hop .entry)) (now (info .entry)) ⌝ }
     {
-        let expected = self.interface;
+        let expected = self.current_interface_id;
         let cons_dir = view::cons_dir(info);
         if self.ingress {
             let found = view::ingress_interface(hop, info);
@@ -111,8 +112,7 @@ impl StandardValidator {
 
     // Questions 9 to 11 at ingress, 19, 10 and 11 at egress: those that ask for no MAC.
     pub fn validate_hop(self, hop_index: u8, hop: &[u8], info: &[u8]) -> Validation
-        ensures { λ r. ⌜ ((mac : MacFunction) (segId : ℕ) → r ≡ firstNo (take 3 (hopQuestions mac self «hop_index»
-            (now (hop .entry)) (now (info .entry)) segId))) ⌝ }
+        ensures { λ r. ⌜ r ≡ firstNo (fieldQuestions self «hop_index» (now (hop .entry)) (now (info .entry))) ⌝ }
     {
         if !self.interface_fits(hop, info) {
             return Validation::Invalid(self.wrong_interface(hop_index, hop, info));
@@ -137,8 +137,8 @@ pub fn validate_mac(
     info: &[u8],
     segment_id: u16,
 ) -> Validation
-    ensures { λ r. ⌜ ((at : StandardValidator) → at .unchecked ≡ false → r ≡ firstNo (drop 3 (hopQuestions
-        (scheduleMac (now (table .entry)) «round_keys» k1) at «hop_index» (now (hop .entry)) (now (info .entry)) «segment_id»))) ⌝ }
+    ensures { λ r. ⌜ r ≡ firstNo (macQuestions (scheduleMac (now (table .entry)) «round_keys» k1) false «hop_index»
+        (now (hop .entry)) (now (info .entry)) «segment_id») ⌝ }
 {
     let expected = expected_mac(table, round_keys, k1, hop, info, segment_id);
     let actual = mac_number(view::mac(hop));

@@ -1,6 +1,5 @@
 use borrow.Author.Needs.{needs}
 use mathlib.Core.Path.{sym, _∙_}
-use mathlib.Core.List.{[]}
 use denote.Ref.{now}
 use borrow.Author.Tests.{not-true, not-false}
 use Rattle.validator.proofs.Asked.{goes-on, stops}
@@ -10,19 +9,25 @@ use Rattle.routing.proofs.ingress.validate_ingress.Statement.{statement
 use Rattle.routing.proofs.ingress.validate_ingress.Tie as tie
 
 returns : tie.Need-returns
-returns c = let no = sym (rw (c .before .before .before .before .before .curr-hop-field-idx .ensures, c .before .before .before .before .curr-hop-field .ensures, c .before .before .before .curr-info-field .ensures) at (c .before .before .validate-hop .ensures (keyMac []) 0)) ∙ c .enum-told2 .given .1 in c .enum-told2 .given .1 ∙ sym (stops _ _ _ no)
+returns c = let asked = rw (c .before .before .before .before .before .curr-hop-field-idx .ensures, c .before .before .before .before .curr-hop-field .ensures, c .before .before .before .curr-info-field .ensures) at (c .before .before .validate-hop .ensures) in
+    c .enum-told2 .given .1 ∙ sym (stops _ _ _ (sym asked ∙ c .enum-told2 .given .1))
 
 validate-checked-requires : tie.Need-validate-checked-requires
 validate-checked-requires c κs = not-true _ (c .if1 .taken)
 
 returns-2 : tie.Need-returns-2
-returns-2 c = let yes = sym (rw (c .before .before .before .before .before .before .before .before .curr-hop-field-idx .ensures, c .before .before .before .before .before .before .before .curr-hop-field .ensures, c .before .before .before .before .before .before .curr-info-field .ensures) at (c .before .before .before .before .before .validate-hop .ensures (keyMac []) 0)) ∙ c .before .before .before .enum-told .given .1 in c .validate-checked .ensures ∙ sym (goes-on _ _ yes)
+returns-2 c = let asked = rw (c .before .before .before .before .before .before .before .before .curr-hop-field-idx .ensures, c .before .before .before .before .before .before .before .curr-hop-field .ensures, c .before .before .before .before .before .before .curr-info-field .ensures) at (c .before .before .before .before .before .validate-hop .ensures) in
+    c .validate-checked .ensures ∙ sym (goes-on _ _ (sym asked ∙ c .before .before .before .enum-told .given .1))
 
 returns-3 : tie.Need-returns-3
-returns-3 c = let yes = sym (rw (c .before .before .before .before .before .before .before .before .before .curr-hop-field-idx .ensures, c .before .before .before .before .before .before .before .before .curr-hop-field .ensures, c .before .before .before .before .before .before .before .curr-info-field .ensures) at (c .before .before .before .before .before .before .validate-hop .ensures (keyMac []) 0)) ∙ c .before .before .before .before .enum-told .given .1 in rw (c .before .if2 .taken) (c .validate-next .ensures (keyMac (now (c .before .before .before .before .before .before .before .before .before .before .before .before .before .args .forwarding-key))) ∙ sym (ingress-changes (keyMac (now (c .before .before .before .before .before .before .before .before .before .before .before .before .before .args .forwarding-key))) (c .before .before .before .before .before .before .before .before .before .before .before .before .before .args .at) (not-false _ (c .before .before .if1 .left)) (now (c .before .before .before .before .before .before .before .before .before .before .before .before .before .args .ids)) (now (c .before .before .before .before .before .before .before .before .before .before .before .before .before .args .states)) (now (c .before .before .before .before .before .before .before .before .before .before .before .before .before .args .path)) yes))
+returns-3 c = let asked = rw (c .before .before .before .before .before .before .before .before .before .curr-hop-field-idx .ensures, c .before .before .before .before .before .before .before .before .curr-hop-field .ensures, c .before .before .before .before .before .before .before .curr-info-field .ensures) at (c .before .before .before .before .before .before .validate-hop .ensures) in
+    let args = c .before .before .before .before .before .before .before .before .before .before .before .before .before .args in
+    rw (c .before .if2 .taken) (c .validate-next .ensures ∙ sym (ingress-changes (keyMac (now (args .forwarding-key))) (args .at) (not-false _ (c .before .before .if1 .left)) (now (args .path)) (sym asked ∙ c .before .before .before .before .enum-told .given .1) (now (args .ids)) (now (args .states))))
 
 returns-4 : tie.Need-returns-4
-returns-4 c = let yes = sym (rw (c .before .before .before .before .before .before .before .before .curr-hop-field-idx .ensures, c .before .before .before .before .before .before .before .curr-hop-field .ensures, c .before .before .before .before .before .before .curr-info-field .ensures) at (c .before .before .before .before .before .validate-hop .ensures (keyMac []) 0)) ∙ c .before .before .before .enum-told .given .1 in rw (c .if2 .left) (sym (ingress-stays (keyMac (now (c .before .before .before .before .before .before .before .before .before .before .before .before .args .forwarding-key))) (c .before .before .before .before .before .before .before .before .before .before .before .before .args .at) (not-false _ (c .before .if1 .left)) (now (c .before .before .before .before .before .before .before .before .before .before .before .before .args .ids)) (now (c .before .before .before .before .before .before .before .before .before .before .before .before .args .states)) (now (c .before .before .before .before .before .before .before .before .before .before .before .before .args .path)) yes))
+returns-4 c = let asked = rw (c .before .before .before .before .before .before .before .before .curr-hop-field-idx .ensures, c .before .before .before .before .before .before .before .curr-hop-field .ensures, c .before .before .before .before .before .before .curr-info-field .ensures) at (c .before .before .before .before .before .validate-hop .ensures) in
+    let args = c .before .before .before .before .before .before .before .before .before .before .before .before .args in
+    rw (c .if2 .left) (sym (ingress-stays (keyMac (now (args .forwarding-key))) (args .at) (not-false _ (c .before .if1 .left)) (now (args .path)) (sym asked ∙ c .before .before .before .enum-told .given .1) (now (args .ids)) (now (args .states))))
 
 pub validate-ingress-spec : {M : Type 1} → statement M
 validate-ingress-spec =

@@ -5,10 +5,12 @@ use Rattle.routing.proofs.ingress.validate_next.Statement.{statement}
 use Rattle.routing.proofs.ingress.validate_next.Tie as tie
 
 returns : tie.Need-returns
-returns c = λ mac. let no = sym (rw (c .before .before .before .before .before .before .before .curr-hop-field-idx .ensures, c .before .before .before .before .curr-hop-field .ensures, c .before .before .before .curr-info-field .ensures, c .before .before .before .before .before .before .next-hop-field .ensures, c .before .before .before .before .before .next-info-field .ensures) at (c .before .before .validate-segment-change .ensures)) ∙ c .enum-told2 .given .1 in c .enum-told2 .given .1 ∙ sym (stops _ _ _ no)
+returns c = let no = sym (rw (c .before .before .before .before .before .before .before .curr-hop-field-idx .ensures, c .before .before .before .before .curr-hop-field .ensures, c .before .before .before .curr-info-field .ensures, c .before .before .before .before .before .before .next-hop-field .ensures, c .before .before .before .before .before .next-info-field .ensures) at (c .before .before .validate-segment-change .ensures)) ∙ c .enum-told2 .given .1 in
+    c .enum-told2 .given .1 ∙ sym (stops _ _ _ no)
 
 returns-2 : tie.Need-returns-2
-returns-2 c = λ mac. let yes = sym (rw (c .before .before .before .before .before .before .before .before .curr-hop-field-idx .ensures, c .before .before .before .before .before .curr-hop-field .ensures, c .before .before .before .before .curr-info-field .ensures, c .before .before .before .before .before .before .before .next-hop-field .ensures, c .before .before .before .before .before .before .next-info-field .ensures) at (c .before .before .before .validate-segment-change .ensures)) ∙ c .before .enum-told .given .1 in rw (c .before .before .before .before .before .before .before .before .curr-hop-field-idx .ensures, c .before .before .before .before .before .before .before .next-hop-field .ensures, c .before .before .before .before .before .before .next-info-field .ensures) at (c .validate-hop .ensures mac 0) ∙ sym (goes-on _ _ yes)
+returns-2 c = let yes = sym (rw (c .before .before .before .before .before .before .before .before .curr-hop-field-idx .ensures, c .before .before .before .before .before .curr-hop-field .ensures, c .before .before .before .before .curr-info-field .ensures, c .before .before .before .before .before .before .before .next-hop-field .ensures, c .before .before .before .before .before .before .next-info-field .ensures) at (c .before .before .before .validate-segment-change .ensures)) ∙ c .before .enum-told .given .1 in
+    rw (c .before .before .before .before .before .before .before .before .curr-hop-field-idx .ensures, c .before .before .before .before .before .before .before .next-hop-field .ensures, c .before .before .before .before .before .before .next-info-field .ensures) at (c .validate-hop .ensures) ∙ sym (goes-on _ _ yes)
 
 pub validate-next-spec : {M : Type 1} → statement M
 validate-next-spec =

@@ -8,19 +8,19 @@ use Rattle.validator.proofs.check.StandardValidator.validate_hop.Tie as
 
 returns : tie.Need-returns
 unfolding firstNo
-returns c = λ mac segId. rw (sym (c .before .before .interface-fits .ensures) ∙ not-true _ (c .before .if1 .taken)) (ap Invalid (c .wrong-interface .ensures))
+returns c = rw (sym (c .before .before .interface-fits .ensures) ∙ not-true _ (c .before .if1 .taken)) (ap Invalid (c .wrong-interface .ensures))
 
 returns-2 : tie.Need-returns-2
 unfolding firstNo
-returns-2 c = λ mac segId. rw (sym (c .before .before .before .before .interface-fits .ensures) ∙ not-false _ (c .before .before .before .if1 .left), lt-leb _ _ (rw (c .before .before .timestamp .ensures) at (c .if2 .taken)))
+returns-2 c = rw (sym (c .before .before .before .before .interface-fits .ensures) ∙ not-false _ (c .before .before .before .if1 .left), lt-leb _ _ (rw (c .before .before .timestamp .ensures) at (c .if2 .taken)))
 
 returns-3 : tie.Need-returns-3
 unfolding firstNo
-returns-3 c = λ mac segId. rw (sym (c .before .before .before .before .before .before .before .interface-fits .ensures) ∙ not-false _ (c .before .before .before .before .before .before .if1 .left), le-leb _ _ (rw (c .before .before .before .before .before .timestamp .ensures) at (c .before .before .before .if2 .left)), lt-leb _ _ (rw (c .before .before .expiry-timestamp .ensures) at (c .if3 .taken)))
+returns-3 c = rw (sym (c .before .before .before .before .before .before .before .interface-fits .ensures) ∙ not-false _ (c .before .before .before .before .before .before .if1 .left), le-leb _ _ (rw (c .before .before .before .before .before .timestamp .ensures) at (c .before .before .before .if2 .left)), lt-leb _ _ (rw (c .before .before .expiry-timestamp .ensures) at (c .if3 .taken)))
 
 returns-4 : tie.Need-returns-4
 unfolding firstNo
-returns-4 c = λ mac segId. rw (sym (c .before .before .before .before .before .before .before .interface-fits .ensures) ∙ not-false _ (c .before .before .before .before .before .before .if1 .left), le-leb _ _ (rw (c .before .before .before .before .before .timestamp .ensures) at (c .before .before .before .if2 .left)), le-leb _ _ (rw (c .before .before .expiry-timestamp .ensures) at (c .if3 .left)))
+returns-4 c = rw (sym (c .before .before .before .before .before .before .before .interface-fits .ensures) ∙ not-false _ (c .before .before .before .before .before .before .if1 .left), le-leb _ _ (rw (c .before .before .before .before .before .timestamp .ensures) at (c .before .before .before .if2 .left)), le-leb _ _ (rw (c .before .before .expiry-timestamp .ensures) at (c .if3 .left)))
 
 pub validate-hop-spec : {M : Type 1} → statement M
 validate-hop-spec =
