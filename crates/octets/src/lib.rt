@@ -23,11 +23,15 @@ pub fn u8_at(bytes: &[u8], at: u8) -> u8
     byte_at(bytes, at as usize)
 }
 
+// In this and the next one comparison serves all bytes, but where the number runs past the end.
 pub fn u16_at(bytes: &[u8], at: u8) -> u16
     ensures { λ r. ⌜ r ≡ be16At (now (bytes .entry)) at ⌝ }
 {
     let place = at as usize;
-    u16_from_be_bytes(byte_at(bytes, place), byte_at(bytes, place + 1))
+    if place + 1 < bytes.len() {
+        return u16_from_be_bytes(bytes[place], bytes[place + 1]);
+    }
+    u16_from_be_bytes(byte_at(bytes, place), 0)
 }
 
 fn join(high: u16, low: u16) -> u32
@@ -40,9 +44,13 @@ pub fn u32_at(bytes: &[u8], at: u8) -> u32
     ensures { λ r. ⌜ r ≡ be32At (now (bytes .entry)) at ⌝ }
 {
     let place = at as usize;
+    if place + 3 < bytes.len() {
+        let high = u16_from_be_bytes(bytes[place], bytes[place + 1]);
+        let low = u16_from_be_bytes(bytes[place + 2], bytes[place + 3]);
+        return join(high, low);
+    }
     let high = u16_from_be_bytes(byte_at(bytes, place), byte_at(bytes, place + 1));
-    let low = u16_from_be_bytes(byte_at(bytes, place + 2), byte_at(bytes, place + 3));
-    join(high, low)
+    join(high, u16_from_be_bytes(byte_at(bytes, place + 2), 0))
 }
 
 pub fn put_byte(bytes: &mut [u8], at: usize, value: u8)
