@@ -1,14 +1,15 @@
 -- The cipher by the round table is FIPS 197's.
 -- Assumes nothing.
-use mathlib.Core.Path.{_≡_, refl, sym, ap, ap₂, _∙_}
+use mathlib.Core.Path.{_≡_, refl, ap, ap₂, _∙_}
 use mathlib.Core.List.{List, [], _∷_}
-use Prim.Native.Nat.{ℕ, zero, suc, _+_, _-_, _*_, _≤_}
+use Prim.Native.Nat.{ℕ, zero, suc, _+_, _*_}
 use native.Mathlib.Omega.{arith}
 use lib.ListN.{getD}
 use Rattle.aes_cmac.specs.Block.{xorBlock}
 use Rattle.aes_sbox.specs.Field.{mul, sBox, subByte}
 use Rattle.aes_cmac.specs.Cipher.{mixedByte, subBytes, shiftRows, mixColumns, round, rounds, cipher}
-use Rattle.aes_cmac.specs.KeyExpansion.{xorWord}
+use Rattle.aes_cmac.specs.KeyExpansion.{xorWord, joined}
+use Rattle.aes_cmac.specs.Words.{blockWords}
 use Rattle.aes_cmac.specs.ByTable.{spreads, roundTable, rotated, entryOf, substitutedBy, columnBy, lastColumnBy, columns, roundBy, lastRoundBy, roundsBy, cipherBy}
 use Rattle.octets.proofs.Xor.{xor-turn}
 
@@ -79,11 +80,7 @@ cipher-law w b = last-round-law _ _ ∙ ap (λ (l : List ℕ). xorBlock (shiftRo
 pub cipher-by-table : {t : List ℕ} {v w : List (List ℕ)} → t ≡ roundTable → v ≡ w → cipherBy t v ≡ cipher w
 cipher-by-table {t} {v} {w} p q = ap₂ cipherBy p q ∙ (λ i b. cipher-law w b i)
 
--- a round more, as the code counts them
-pub rounds-more : (t : List ℕ) (w : List (List ℕ)) (s₀ : List ℕ) (i : ℕ) {s r : List ℕ} → 1 ≤ i → r ≡ roundBy t s (getD w i [])
-    → s ≡ roundsBy t w s₀ (i - 1) → r ≡ roundsBy t w s₀ (i + 1 - 1)
-unfolding roundsBy
-rounds-more t w s₀ i h p q =
-    let e : i + 1 - 1 ≡ suc (i - 1) = omega arith in
-    let f : i ≡ suc (i - 1) = omega arith in
-    p ∙ ap₂ (λ (l : List ℕ) (n : ℕ). roundBy t l (getD w n [])) q f ∙ ap (roundsBy t w s₀) (sym e)
+-- a block that is taken word by word
+pub cipher-words : (t : List ℕ) (w : List (List ℕ)) (b : List ℕ) → cipherBy t w (joined (blockWords b)) ≡ cipherBy t w b
+unfolding cipherBy xorBlock blockWords
+cipher-words t w b = refl

@@ -86,18 +86,33 @@ fn last_round(table: &[u8; 1024], state: [u32; 4], round_key: [u8; 16]) -> [u8; 
     unwords(xor_words(columns, words(round_key)))
 }
 
+// The cipher with a lent table, of a block by its words. The rounds are written out: an index that is no literal copies all round keys in
+// each call.
+pub(crate) fn encrypt_words(
+    table: &[u8; 1024],
+    round_keys: [[u8; 16]; 11],
+    block: [u32; 4],
+) -> [u8; 16]
+    ensures { λ r. ⌜ r ≡ cipherBy (now (table .entry)) «round_keys» (stateBytes block) ⌝ }
+{
+    let state = xor_words(block, words(round_keys[0]));
+    let state = round(table, state, round_keys[1]);
+    let state = round(table, state, round_keys[2]);
+    let state = round(table, state, round_keys[3]);
+    let state = round(table, state, round_keys[4]);
+    let state = round(table, state, round_keys[5]);
+    let state = round(table, state, round_keys[6]);
+    let state = round(table, state, round_keys[7]);
+    let state = round(table, state, round_keys[8]);
+    let state = round(table, state, round_keys[9]);
+    last_round(table, state, round_keys[10])
+}
+
 // The cipher with a lent table. With `round_table()` it is AES.
 pub fn encrypt_with(table: &[u8; 1024], round_keys: [[u8; 16]; 11], block: [u8; 16]) -> [u8; 16]
     ensures { λ r. ⌜ r ≡ cipherBy (now (table .entry)) «round_keys» block ⌝ }
 {
-    let mut state = xor_words(words(block), words(round_keys[0]));
-    let mut i = 1;
-    while i < 10 {
-        let next = round(table, state, round_keys[i]);
-        state = next;
-        i += 1;
-    }
-    last_round(table, state, round_keys[10])
+    encrypt_words(table, round_keys, words(block))
 }
 
 pub fn encrypt_block(round_keys: [[u8; 16]; 11], block: [u8; 16]) -> [u8; 16]

@@ -1,7 +1,10 @@
 // AES-CMAC, RFC 4493.
 use crate::aes::encrypt_with;
+use crate::aes::encrypt_words;
 use crate::aes::expand_key;
 use crate::aes::round_table;
+use crate::words::words;
+use crate::words::xor_words;
 ghost use mathlib.Core.Path.{_≡_};
 ghost use Prim.Native.Nat.{_+_, _-_, _*_, _/_, _%_, _≤_};
 ghost use lib.ListN.{length};
@@ -155,7 +158,7 @@ pub fn aes_cmac_with(
     encrypt_with(table, round_keys, xor_block(state, last_block(k1, message)))
 }
 
-// The same for a message of one block.
+// The same for a message of one block. By words: a block that was put together byte by byte is slow to read back.
 pub fn aes_cmac_block_with(
     table: &[u8; 1024],
     round_keys: [[u8; 16]; 11],
@@ -164,7 +167,7 @@ pub fn aes_cmac_block_with(
 ) -> [u8; 16]
     ensures { λ r. ⌜ r ≡ macWith (cipherBy (now (table .entry)) «round_keys») k1 block ⌝ }
 {
-    encrypt_with(table, round_keys, xor_block(block, k1))
+    encrypt_words(table, round_keys, xor_words(words(block), words(k1)))
 }
 
 pub fn aes_cmac(key: [u8; 16], message: &[u8]) -> [u8; 16]

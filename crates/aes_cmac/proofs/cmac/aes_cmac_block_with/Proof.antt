@@ -1,15 +1,18 @@
 use borrow.Author.Needs.{needs}
-use mathlib.Core.Path.{_≡_, ap, _∙_}
+use mathlib.Core.Path.{_≡_, ap, ap₂, _∙_}
 use lib.ListN.{length}
+use Rattle.aes_cmac.specs.Block.{xorBlock}
+use Rattle.aes_cmac.specs.KeyExpansion.{joined}
 use Rattle.aes_cmac.specs.ByTable.{cipherBy}
+use Rattle.aes_cmac.proofs.WordBytes.{xor-words}
 use Rattle.aes_cmac.proofs.CmacLaws.{one-block}
 use Rattle.aes_cmac.proofs.cmac.aes_cmac_block_with.Statement.{statement}
 use Rattle.aes_cmac.proofs.cmac.aes_cmac_block_with.Tie as tie
 
 returns : tie.Need-returns
-returns c =
-    let size : length (c .before .before .args .block) ≡ 16 = c .before .before .good .1 .1 .1 .0 .1 .0 .1 in
-    c .encrypt-with .ensures ∙ ap (cipherBy _ _) (c .before .xor-block .ensures) ∙ one-block _ _ _ size
+returns c = let size : length (c .before .before .before .before .args .block) ≡ 16 = c .before .before .before .before .good .1 .1 .1 .0 .1 .0 .1 in c .encrypt-words .ensures ∙ ap (cipherBy _ _) (c .before .xor-words .ensures ∙ ap₂ xorBlock (ap joined (c .before .before .before .words .ensures)) (ap joined (c .before .before .words2 .ensures)) ∙ xor-words _ _) ∙ one-block _ _ _ size
 
 pub aes-cmac-block-with-spec : {M : Type 1} → statement M
-aes-cmac-block-with-spec = tie.close (tie.spec (λ c κs. search needs) (λ c κs. search needs) returns)
+aes-cmac-block-with-spec =
+    tie.close
+    (tie.spec (λ c κs. search needs) (λ c κs. search needs) (λ c κs. search needs) (λ c κs. search needs) returns)
