@@ -88,8 +88,8 @@ fn decide_egress(forwarding_key: &[u8; 16], at: StandardValidator, path: &[u8]) 
     }
 }
 
-// The egress half.
-pub fn advance_egress(
+// The egress half, with a validator.
+pub fn egress_with(
     ids: &[u16],
     states: &[u8],
     forwarding_key: &[u8; 16],

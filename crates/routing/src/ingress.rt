@@ -288,8 +288,8 @@ fn ingress_here(
     answer
 }
 
-// The ingress half.
-pub fn advance_ingress(
+// The ingress half, with a validator.
+pub fn ingress_with(
     ids: &[u16],
     states: &[u8],
     forwarding_key: &[u8; 16],

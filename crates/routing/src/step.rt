@@ -43,7 +43,7 @@ pub fn standard_path_ingress(
         time,
         ignore_macs,
     };
-    ingress::advance_ingress(ids, states, forwarding_key, at, path)
+    ingress::ingress_with(ids, states, forwarding_key, at, path)
 }
 
 pub fn standard_path_egress(
@@ -66,7 +66,7 @@ pub fn standard_path_egress(
         time,
         ignore_macs,
     };
-    egress::advance_egress(ids, states, forwarding_key, at, path)
+    egress::egress_with(ids, states, forwarding_key, at, path)
 }
 
 // ---- between them
