@@ -14,8 +14,8 @@ use Rattle.standard_path.specs.Fields.{currInf, currHf, setCurrInf, setCurrHf, 
 use Rattle.standard_path.specs.Header.{infos, headerSize, infoField, hopField}
 use Rattle.standard_path.proofs.HopMac.{chaining-append}
 use Rattle.standard_path.proofs.Kept.{Kept, kept-trans, infos-kept}
-use Rattle.standard_path.proofs.Kept.{set-hf-kept, set-hf-hop, set-hf-info, set-inf-kept, set-inf-hop, set-inf-info}
-use Rattle.standard_path.proofs.Kept.{hf-after-hf, inf-after-hf, hf-after-inf, inf-after-inf}
+use Rattle.standard_path.proofs.IndexSet.{set-hf-kept, set-hf-hop, set-hf-info, set-inf-kept, set-inf-hop, set-inf-info}
+use Rattle.standard_path.proofs.IndexSet.{hf-after-hf, inf-after-hf, hf-after-inf, inf-after-inf}
 use Rattle.routing.specs.Ingress.{hop, info, stepped, ingressFields}
 use Rattle.routing.specs.Egress.{egressMove}
 use Rattle.routing.proofs.Touched.{SameInfo, stepped-kept, stepped-inf, stepped-hf, stepped-hop, stepped-info, stepped-info-other, stepped-seg-id}

@@ -11,7 +11,8 @@ use lib.Dec.{eqb, ltb, leb}
 use lib.ListN.{length}
 use Rattle.standard_path.specs.Fields.{currInf, currHf, consDir, segId, travelEgress, setCurrHf, setCurrInf}
 use Rattle.standard_path.specs.Header.{infos, hops, headerSize, infoField, hopField}
-use Rattle.standard_path.proofs.Kept.{infos-kept, hops-kept, set-hf-hop, set-hf-info, set-inf-hop, set-inf-info, hf-after-hf, hf-after-inf, inf-after-inf, set-hf-kept}
+use Rattle.standard_path.proofs.Kept.{infos-kept, hops-kept}
+use Rattle.standard_path.proofs.IndexSet.{set-hf-hop, set-hf-info, set-inf-hop, set-inf-info, hf-after-hf, hf-after-inf, inf-after-inf, set-hf-kept}
 use Rattle.validator.specs.Questions.{Questions, firstNo}
 use Rattle.validator.specs.Check.{MacFunction, hopQuestions, changeQuestions}
 use Rattle.validator.specs.declared.check.StandardValidator.{StandardValidator}

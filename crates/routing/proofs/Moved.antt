@@ -12,7 +12,9 @@ use Rattle.standard_path.specs.Fields.{currInf, currHf, consDir}
 use Rattle.standard_path.specs.Header.{infos, hops, headerSize}
 use Rattle.standard_path.specs.Moves.{clearIngressAlert}
 use Rattle.standard_path.proofs.Kept.{Kept, kept-self, kept-trans, hops-kept, header-size-kept, header-check-kept}
-use Rattle.standard_path.proofs.Kept.{seg-id-kept, seg-id-past, alert-kept, alert-past, set-hf-kept, set-hf-past, set-inf-kept, set-inf-past}
+use Rattle.standard_path.proofs.SegIdSet.{seg-id-kept, seg-id-past}
+use Rattle.standard_path.proofs.AlertCleared.{alert-kept, alert-past}
+use Rattle.standard_path.proofs.IndexSet.{set-hf-kept, set-hf-past, set-inf-kept, set-inf-past}
 use Rattle.validator.specs.Questions.{firstNo}
 use Rattle.validator.specs.Check.{MacFunction}
 use Rattle.validator.specs.declared.check.StandardValidator.{StandardValidator}

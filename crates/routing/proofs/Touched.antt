@@ -11,9 +11,11 @@ use Rattle.standard_path.specs.Layout.{infoOffset}
 use Rattle.standard_path.specs.Fields.{currInf, currHf, consDir, segId, timestamp, expTime, consIngress, consEgress, macField}
 use Rattle.standard_path.specs.Header.{infos, infoField, hopField}
 use Rattle.standard_path.specs.Moves.{clearIngressAlert}
-use Rattle.standard_path.proofs.Kept.{Kept, kept-self, kept-trans, infos-kept, seg-id-kept, alert-kept}
-use Rattle.standard_path.proofs.Kept.{seg-id-curr-inf, seg-id-curr-hf, seg-id-hop, seg-id-cons-dir, seg-id-timestamp, seg-id-info-other, seg-id-after}
-use Rattle.standard_path.proofs.Kept.{alert-curr-inf, alert-curr-hf, alert-info, alert-hop-other, alert-exp-time, alert-cons-ingress, alert-cons-egress, alert-mac}
+use Rattle.standard_path.proofs.Kept.{Kept, kept-self, kept-trans, infos-kept}
+use Rattle.standard_path.proofs.SegIdSet.{seg-id-kept, seg-id-curr-inf, seg-id-curr-hf, seg-id-hop}
+use Rattle.standard_path.proofs.SegIdSet.{seg-id-cons-dir, seg-id-timestamp, seg-id-info-other, seg-id-after}
+use Rattle.standard_path.proofs.AlertCleared.{alert-kept, alert-curr-inf, alert-curr-hf, alert-info, alert-hop-other}
+use Rattle.standard_path.proofs.AlertCleared.{alert-exp-time, alert-cons-ingress, alert-cons-egress, alert-mac}
 use Rattle.routing.specs.Ingress.{hop, info, stepped, steppedSegId, ingressSegId, ingressFields}
 
 -- two hop fields that differ in their flags at most
