@@ -4,20 +4,17 @@
 -- state of the one that has it (entry-found).
 -- Assumes nothing.
 use mathlib.Core.Path.{_≡_, refl}
-use mathlib.Core.Bool.{Bool, true, false, cond, _&&_}
+use mathlib.Core.Bool.{Bool, true, false, cond}
 use mathlib.Core.List.{List, [], _∷_}
 use Prim.Native.Nat.{ℕ, zero, suc, _≤_, _<_}
 use native.Mathlib.Omega.{arith}
 use borrow.Author.Tests.{ltb-true, leb-true, eqb-true, eq-eqb, ne-eqb}
 use lib.Dec.{eqb, leb, ltb}
 use lib.ListN.{length, getD}
+use Rattle.octets.proofs.Bools.{each-of}
 use Rattle.interface_table.specs.Table.{idsAscending, statesSound, tableSound, stateOf}
 use Rattle.interface_table.specs.declared.Listed.{Listed}
 use Rattle.interface_table.specs.declared.Listed.the-variants.{State, Nothing}
-
-both : (a b : Bool) → (a && b) ≡ true → (a ≡ true) × (b ≡ true)
-both true b q = (refl, q)
-both false b q = let z : _≡_ {A = ℕ} 0 1 = cc in absurd (omega arith)
 
 -- ---- entries of any table
 
@@ -73,15 +70,15 @@ unlisted-none ids states id h = by (stateOf ids states id) refl
 rest-ascends : (id : ℕ) (ids : List ℕ) → idsAscending (id ∷ ids) ≡ true → idsAscending ids ≡ true
 unfolding idsAscending
 rest-ascends id [] q = refl
-rest-ascends id (next ∷ ids) q = both (ltb id next) _ q .1
+rest-ascends id (next ∷ ids) q = each-of (ltb id next) _ q .1
 
 above-first : (id : ℕ) (ids : List ℕ) → idsAscending (id ∷ ids) ≡ true → (k : ℕ) → k < length ids → id < getD ids k 0
 unfolding idsAscending
 above-first id [] q k h = absurd (omega arith)
-above-first id (next ∷ ids) q zero h = ltb-true id next (both (ltb id next) _ q .0)
+above-first id (next ∷ ids) q zero h = ltb-true id next (each-of (ltb id next) _ q .0)
 above-first id (next ∷ ids) q (suc k) h =
-    let here : id < next = ltb-true id next (both (ltb id next) _ q .0) in
-    let there : next < getD ids k 0 = above-first next ids (both (ltb id next) _ q .1) k (omega arith) in
+    let here : id < next = ltb-true id next (each-of (ltb id next) _ q .0) in
+    let there : next < getD ids k 0 = above-first next ids (each-of (ltb id next) _ q .1) k (omega arith) in
     omega arith
 
 ascends : (ids : List ℕ) → idsAscending ids ≡ true → (j k : ℕ) → j < k → k < length ids → getD ids j 0 < getD ids k 0
@@ -103,8 +100,8 @@ found-at (id ∷ ids) (state ∷ states) q (suc k) g h =
 below-8 : (states : List ℕ) → statesSound states ≡ true → (k : ℕ) → k < length states → getD states k 0 < 8
 unfolding statesSound
 below-8 [] q k h = absurd (omega arith)
-below-8 (state ∷ states) q zero h = ltb-true state 8 (both (ltb state 8) _ q .0)
-below-8 (state ∷ states) q (suc k) h = below-8 states (both (ltb state 8) _ q .1) k (omega arith)
+below-8 (state ∷ states) q zero h = ltb-true state 8 (each-of (ltb state 8) _ q .0)
+below-8 (state ∷ states) q (suc k) h = below-8 states (each-of (ltb state 8) _ q .1) k (omega arith)
 
 -- ---- a sound table
 
@@ -113,9 +110,9 @@ module _ (ids states : List ℕ) (sound : tableSound ids states ≡ true) where
       (eqb (length ids) (length states) ≡ true) × (leb (length ids) 256 ≡ true) × (idsAscending ids ≡ true) × (statesSound states ≡ true)
   unfolding tableSound
   parts =
-      let four = both _ (statesSound states) sound in
-      let three = both _ (idsAscending ids) (four .0) in
-      let two = both (eqb (length ids) (length states)) _ (three .0) in
+      let four = each-of _ (statesSound states) sound in
+      let three = each-of _ (idsAscending ids) (four .0) in
+      let two = each-of (eqb (length ids) (length states)) _ (three .0) in
       (two .0, two .1, three .1, four .1)
 
   pub sound-lengths : length ids ≡ length states

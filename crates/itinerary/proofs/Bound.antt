@@ -10,6 +10,7 @@ use native.Mathlib.Omega.{arith}
 use borrow.Author.Tests.{ne-eqb, leb-true, ltb-true, eqb-true, eqb-false}
 use lib.Dec.{eqb, leb, ltb}
 use lib.ListN.{length, length-map}
+use Rattle.octets.proofs.Bools.{each-of, each-of-3, each-of-4, each-way}
 use Rattle.interface_table.specs.Table.{tableSound}
 use Rattle.interface_table.proofs.Entries.{sound-by-entries}
 use Rattle.itinerary.specs.Layout.{Layout}
@@ -17,12 +18,12 @@ use Rattle.itinerary.specs.Records.{every, recordCount, nextOf, interfac
 use Rattle.itinerary.specs.Itinerary.{stationRecords, nextSound, isNoStation, interfaceSound, stationSound}
 use Rattle.itinerary.specs.Itinerary.{sizeSound, zerosSound, headSound, soundWithin, stationWithin, stationsWithin}
 use Rattle.itinerary.specs.Itinerary.{tablesSound, arrivalsFit, fitsWithin, itinerarySound, itineraryFits}
-use Rattle.itinerary.proofs.Every.{both, all3, all4, each-way, every-implied, every-both, every-alike, every-same, map-same}
+use Rattle.itinerary.proofs.Every.{every-implied, every-both, every-alike, every-same, map-same}
 use Rattle.itinerary.proofs.Walks.{chain-end}
 use Rattle.itinerary.proofs.Stations.{hasSoundTable, tables-by-records, count-by-records}
 
 table-size : (ids states : List ℕ) → tableSound ids states ≡ true → length ids ≤ 256
-table-size ids states e = leb-true _ _ (both (leb (length ids) 256) _ (sym (sound-by-entries ids states) ∙ e) .0)
+table-size ids states e = leb-true _ _ (each-of (leb (length ids) 256) _ (sym (sound-by-entries ids states) ∙ e) .0)
 
 module _ (layout : Layout) (itinerary : List ℕ) where
   abbrev records : ℕ
@@ -65,7 +66,7 @@ module _ (layout : Layout) (itinerary : List ℕ) where
       go : (b : Bool) → eqb (next index) 0 ≡ b → (b || ltb index (next index) && ltb (next index) records) ≡ true
           → (next index ≡ 0) ⊎ ((index < next index) × (next index < records))
       go true z e = inl (eqb-true _ _ z)
-      go false z e = let held = both (ltb index (next index)) _ e in inr (ltb-true _ _ (held .0), ltb-true _ _ (held .1))
+      go false z e = let held = each-of (ltb index (next index)) _ e in inr (ltb-true _ _ (held .0), ltb-true _ _ (held .1))
 
   goes-up : (limit index : ℕ) → (index ≡ 0 → ⊥) → index < records → every (nextSound layout itinerary) (from limit index) ≡ true
       → length (from limit index) + index ≤ records
@@ -74,7 +75,7 @@ module _ (layout : Layout) (itinerary : List ℕ) where
   goes-up (suc limit) index n h e =
       let split : (nextSound layout itinerary index && every (nextSound layout itinerary) (from limit (next index))) ≡ true =
       rw (ne-eqb index 0 n) at e in
-      let held = both (nextSound layout itinerary index) _ split in
+      let held = each-of (nextSound layout itinerary index) _ split in
       let rest : length (from limit (next index)) + 1 + index ≤ records =
       ⊎-elim
       (λ z. let none : length (from limit (next index)) ≡ 0 = rw (chain-end layout itinerary limit _ z) in omega arith)
@@ -95,31 +96,31 @@ module _ (layout : Layout) (itinerary : List ℕ) where
   interface-next : (stationLimit index : ℕ) → interfaceSound layout itinerary stationLimit index ≡ true
       → nextSound layout itinerary index ≡ true
   unfolding interfaceSound
-  interface-next stationLimit index e = all3 (nextSound layout itinerary index) _ _ e .0
+  interface-next stationLimit index e = each-of-3 (nextSound layout itinerary index) _ _ e .0
 
   module _ (stationLimit tableLimit : ℕ) where
     module _ (station : ℕ) (e : stationSound layout itinerary stationLimit tableLimit station ≡ true) where
       pub station-next : nextSound layout itinerary station ≡ true
       unfolding stationSound
-      station-next = all4 (nextSound layout itinerary station) _ _ _ e .0
+      station-next = each-of-4 (nextSound layout itinerary station) _ _ _ e .0
 
       table-fewer : length (from tableLimit (firstIn station)) < records
       unfolding stationSound
       table-fewer =
-          let held = all4 (nextSound layout itinerary station) _ _ _ e in
+          let held = each-of-4 (nextSound layout itinerary station) _ _ _ e in
           let rises = every-implied _ _ _ (interface-next stationLimit) (held .3) in
           fewer tableLimit (firstIn station) rises (ltb-true _ _ (held .2))
 
     module _ (e : soundWithin layout itinerary stationLimit tableLimit ≡ true) where
       each-sound : every (stationSound layout itinerary stationLimit tableLimit) (from stationLimit first) ≡ true
       unfolding soundWithin
-      each-sound = all3 (sizeSound layout itinerary) (headSound layout itinerary) _ e .2
+      each-sound = each-of-3 (sizeSound layout itinerary) (headSound layout itinerary) _ e .2
 
       stations-fewer : length (from stationLimit first) < records
       unfolding soundWithin headSound
       stations-fewer =
-          let head = all3 (sizeSound layout itinerary) (headSound layout itinerary) _ e .1 in
-          let start = both (zerosSound layout itinerary (layout .headZeros) 0) _ head .1 in
+          let head = each-of-3 (sizeSound layout itinerary) (headSound layout itinerary) _ e .1 in
+          let start = each-of (zerosSound layout itinerary (layout .headZeros) 0) _ head .1 in
           fewer stationLimit first (every-implied _ _ _ station-next each-sound) (ltb-true _ _ start)
 
   -- ---- what two pairs of limits come to, where the chains are the same with both
@@ -191,7 +192,7 @@ module _ (layout : Layout) (itinerary : List ℕ) where
         × (every (hasSoundTable layout itinerary tableLimit) (from stationLimit first) ≡ true)
     unfolding fitsWithin
     parts =
-        let held = all4 (soundWithin layout itinerary stationLimit tableLimit) _ _ _ e in
+        let held = each-of-4 (soundWithin layout itinerary stationLimit tableLimit) _ _ _ e in
         let count = sym (count-by-records layout itinerary stationLimit tableLimit) ∙ eqb-true _ _ (held .1) in
         (held .0, count, sym (tables-by-records layout itinerary stationLimit tableLimit) ∙ held .3)
 
@@ -209,7 +210,7 @@ module _ (layout : Layout) (itinerary : List ℕ) where
 
     same-table : (station : ℕ) → known station ≡ true → from tableLimit′ (firstIn station) ≡ from tableLimit (firstIn station)
     same-table station q =
-        let held = both (stationSound layout itinerary stationLimit tableLimit station) _ q in
+        let held = each-of (stationSound layout itinerary stationLimit tableLimit station) _ q in
         let few = table-few tableLimit station (held .1) in
         let short = table-fewer stationLimit tableLimit station (held .0) in
         same-chain tableLimit tableLimit′ (firstIn station) (reach .table _ few short) (reach′ .table _ few short)

@@ -1,29 +1,13 @@
--- Laws of `every`, and of questions that are all answered yes.
+-- Laws of `every`.
 -- Assumes nothing.
-use mathlib.Core.Path.{_≡_, refl, sym}
-use mathlib.Core.Bool.{Bool, true, false, _&&_, and-eq-true-iff}
+use mathlib.Core.Path.{_≡_, refl}
+use mathlib.Core.Bool.{Bool, true, _&&_}
 use mathlib.Core.List.{List, [], _∷_, map}
+use Prim.Native.Nat.{ℕ, zero, suc, _<_}
+use native.Mathlib.Omega.{arith}
+use lib.ListN.{length, getD}
+use Rattle.octets.proofs.Bools.{each-of, first-of, second-of}
 use Rattle.itinerary.specs.Records.{every}
-
-pub both : (a b : Bool) → (a && b) ≡ true → (a ≡ true) × (b ≡ true)
-both a b = and-eq-true-iff a b .0
-
-pub all3 : (a b c : Bool) → (a && b && c) ≡ true → (a ≡ true) × (b ≡ true) × (c ≡ true)
-all3 a b c e =
-    let held = both (a && b) c e in
-    let first = both a b (held .0) in
-    (first .0, first .1, held .1)
-
-pub all4 : (a b c d : Bool) → (a && b && c && d) ≡ true → (a ≡ true) × (b ≡ true) × (c ≡ true) × (d ≡ true)
-all4 a b c d e =
-    let held = both (a && b && c) d e in
-    let first = all3 a b c (held .0) in
-    (first .0, first .1, first .2, held .1)
-
-pub each-way : (a b : Bool) → (a ≡ true → b ≡ true) → (b ≡ true → a ≡ true) → a ≡ b
-each-way true b there back = sym (there refl)
-each-way false true there back = back refl
-each-way false false there back = refl
 
 pub every-map : {A B : Type 0} (holds : B → Bool) (f : A → B) (xs : List A) → every holds (map f xs) ≡ every (λ x. holds (f x)) xs
 unfolding every
@@ -31,19 +15,26 @@ every-map holds f [] = refl
 every-map holds f (x ∷ xs) = rw (every-map holds f xs)
 
 module _ {A : Type 0} where
+  pub every-at : (holds : A → Bool) (xs : List A) (none : A) → every holds xs ≡ true → (k : ℕ) → k < length xs
+      → holds (getD xs k none) ≡ true
+  unfolding every
+  every-at holds [] none e k l = absurd (omega arith)
+  every-at holds (x ∷ xs) none e zero l = first-of (holds x) (every holds xs) e
+  every-at holds (x ∷ xs) none e (suc k) l = every-at holds xs none (second-of (holds x) (every holds xs) e) k (omega arith)
+
   pub every-implied : (p q : A → Bool) (xs : List A) → ((x : A) → p x ≡ true → q x ≡ true) → every p xs ≡ true → every q xs ≡ true
   unfolding every
   every-implied p q [] h e = refl
   every-implied p q (x ∷ xs) h e =
-      let held = both (p x) (every p xs) e in
+      let held = each-of (p x) (every p xs) e in
       rw (h x (held .0), every-implied p q xs h (held .1))
 
   pub every-both : (p q : A → Bool) (xs : List A) → every p xs ≡ true → every q xs ≡ true → every (λ x. p x && q x) xs ≡ true
   unfolding every
   every-both p q [] d e = refl
   every-both p q (x ∷ xs) d e =
-      let one = both (p x) (every p xs) d in
-      let other = both (q x) (every q xs) e in
+      let one = each-of (p x) (every p xs) d in
+      let other = each-of (q x) (every q xs) e in
       rw (one .0, other .0, every-both p q xs (one .1) (other .1))
 
   pub every-alike : (p q : A → Bool) (xs : List A) → ((x : A) → p x ≡ q x) → every p xs ≡ every q xs
@@ -58,7 +49,7 @@ module _ {A : Type 0} where
     unfolding every
     every-same p q [] h e = refl
     every-same p q (x ∷ xs) h e =
-        let held = both (known x) (every known xs) e in
+        let held = each-of (known x) (every known xs) e in
         rw (h x (held .0), every-same p q xs h (held .1))
 
     pub map-same : {B : Type 0} (f g : A → B) (xs : List A) → ((x : A) → known x ≡ true → f x ≡ g x) → every known xs ≡ true
@@ -66,5 +57,5 @@ module _ {A : Type 0} where
     unfolding every
     map-same f g [] h e = refl
     map-same f g (x ∷ xs) h e =
-        let held = both (known x) (every known xs) e in
+        let held = each-of (known x) (every known xs) e in
         rw (h x (held .0), map-same f g xs h (held .1))

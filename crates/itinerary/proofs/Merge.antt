@@ -8,10 +8,11 @@ use Prim.Native.Nat.{ℕ, zero, suc, _-_, _≤_, _<_}
 use native.Mathlib.Omega.{arith}
 use borrow.Author.Tests.{ne-eqb, lt-ltb, le-ltb, le-leb, leb-true, ltb-true, ltb-false, eqb-true, eqb-false}
 use lib.Dec.{eqb, leb, ltb}
+use Rattle.octets.proofs.Bools.{each-of, each-of-3, each-way}
 use Rattle.itinerary.specs.Layout.{Layout}
 use Rattle.itinerary.specs.Records.{every, nextOf, firstStation, chain, dropBelow}
 use Rattle.itinerary.specs.Itinerary.{stationRecords, nextSound, zerosSound, isNoStation, interfaceSound, stationSound}
-use Rattle.itinerary.proofs.Every.{both, all3, each-way, every-implied, every-same}
+use Rattle.itinerary.proofs.Every.{every-implied, every-same}
 use Rattle.itinerary.proofs.Walks.{chain-end, chain-out, chain-on}
 use Rattle.itinerary.proofs.Bound.{next-sound, station-next}
 
@@ -37,7 +38,7 @@ none-dropped (x ∷ xs) bound index h = go (ltb x bound) refl (none-dropped xs b
 every-dropped : (holds : ℕ → Bool) (bound : ℕ) (xs : List ℕ) → every holds xs ≡ true → every holds (dropBelow bound xs) ≡ true
 unfolding every dropBelow
 every-dropped holds bound [] e = refl
-every-dropped holds bound (x ∷ xs) e = go (ltb x bound) (every-dropped holds bound xs (both (holds x) (every holds xs) e .1))
+every-dropped holds bound (x ∷ xs) e = go (ltb x bound) (every-dropped holds bound xs (each-of (holds x) (every holds xs) e .1))
   where
     go : (b : Bool) → every holds (dropBelow bound xs) ≡ true → every holds (cond b (dropBelow bound xs) (x ∷ xs)) ≡ true
     go true rest = rest
@@ -64,7 +65,7 @@ module _ (layout : Layout) (itinerary : List ℕ) where
   lowest-first (suc limit) index n e =
       let split : (nextSound layout itinerary index && every (nextSound layout itinerary) (from limit (next index))) ≡ true =
       rw (ne-eqb index 0 n) at e in
-      let held = both (nextSound layout itinerary index) _ split in
+      let held = each-of (nextSound layout itinerary index) _ split in
       let rest : every (λ x. leb index x) (from limit (next index)) ≡ true =
       ⊎-elim
       (λ z. rw (chain-end layout itinerary limit _ z))
@@ -89,7 +90,7 @@ module _ (layout : Layout) (itinerary : List ℕ) where
         (lowest-first left index here e)
 
     nexts : (among : List ℕ) → every (asks among) (from left index) ≡ true → every (nextSound layout itinerary) (from left index) ≡ true
-    nexts among e = every-implied _ _ (from left index) (λ x h. all3 (nextSound layout itinerary x) _ _ h .0) e
+    nexts among e = every-implied _ _ (from left index) (λ x h. each-of-3 (nextSound layout itinerary x) _ _ h .0) e
 
     leave-out : every (asks stations) (from left index) ≡ every (asks (dropBelow index stations)) (from left index)
     leave-out =
@@ -151,7 +152,7 @@ module _ {layout : Layout} {itinerary : List ℕ} {stationLimit tableLimit first
         → false ≡ every (interfaceSound layout itinerary stationLimit) (chain layout itinerary tableLimit first)
     unfolding every
     merged-found e =
-        let held = both (ltb 0 stationsLeft) (eqb station index) e in
+        let held = each-of (ltb 0 stationsLeft) (eqb station index) e in
         let same = eqb-true station index (held .1) in
         let at : station ≡ 0 → ⊥ = λ z. here (sym same ∙ z) in
         merged-no (rw (chain-on layout itinerary stationsLeft station _ (ltb-true 0 stationsLeft (held .0)) at refl, held .1, and-false))

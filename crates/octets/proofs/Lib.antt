@@ -1,3 +1,4 @@
 pub mod Lists
+pub mod Bools
 pub mod Below
 pub mod Xor
