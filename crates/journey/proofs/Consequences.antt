@@ -2,14 +2,15 @@
 -- journey leaves is `same-bytes` in Readings.antt, on all inputs.
 -- Assumes nothing.
 use mathlib.Core.Path.{_≡_, refl, sym, _∙_}
-use mathlib.Core.Bool.{Bool, true, false}
+use mathlib.Core.Bool.{Bool, true, false, false≢true}
 use mathlib.Core.List.{List, [], _∷_, _++_}
-use mathlib.Core.Logic.{_⊎_, inr, ⊎-elim}
+use mathlib.Core.Logic.{inr, ⊎-elim}
 use Prim.Native.Nat.{ℕ, _+_, _≤_, _<_}
 use native.Mathlib.Omega.{arith}
 use borrow.Author.Tests.{leb-true, leb-false}
 use lib.Dec.{leb}
 use lib.ListN.{length, getD, replicate}
+use Rattle.octets.proofs.Bools.{first-of, second-of}
 use Rattle.standard_path.specs.Fields.{seg0Len}
 use Rattle.standard_path.proofs.Kept.{kept-self}
 use Rattle.interface_table.specs.Table.{tableSound}
@@ -27,18 +28,18 @@ use Rattle.journey.specs.declared.answer.Verdict.the-variants.{Passed}
 use Rattle.journey.specs.Check.{noStation}
 use Rattle.journey.specs.Journey.{stepAt, journey, arrives}
 use Rattle.journey.specs.Verdict.{questions, journeyCheck, letThrough}
-use Rattle.journey.proofs.Yes.{first-of, second-of, yes}
+use Rattle.journey.proofs.Yes.{yes}
 use Rattle.journey.proofs.FirstStation.{firstThree, first-long}
 use Rattle.journey.proofs.Steps.{before-asked}
-use Rattle.journey.proofs.Along.{never}
 use Rattle.journey.proofs.Stops.{oneOf, stopNumbers, within, refusedWith, stopped, Ends, stops-here, ends-from}
-use Rattle.journey.proofs.Demand3.{Asked, infos-few, starts, first-hop, reached, two-runs, asked, first-no-none}
+use Rattle.journey.proofs.LetThrough.{Asked, infos-few, asked, first-no-none}
+use Rattle.journey.proofs.Demand3.{starts, first-hop, reached, two-runs}
 
 -- a no among the first questions ends with one of their numbers
 first-refused : (qs rs : Questions) (left : List ℕ) (more : Outcome StepAnswer) → within (numbers qs) stopNumbers ≡ true → yes qs ≡ false
     → refusedWith stopNumbers (asks Stopped (firstNo (qs ++ rs)) left more .answer) ≡ true
 unfolding firstNo yes
-first-refused [] rs left more e q = absurd (never (sym q))
+first-refused [] rs left more e q = absurd (false≢true (sym q))
 first-refused ((true, why) ∷ qs) rs left more e q = first-refused qs rs left more (second-of (oneOf (refusalNumber why) stopNumbers) _ e) q
 first-refused ((false, why) ∷ qs) rs left more e q = first-of (oneOf (refusalNumber why) stopNumbers) _ e
 
@@ -96,5 +97,5 @@ module _ (layout : Layout) (itinerary : List ℕ) (earliest latest : ℕ) (path 
       → stopped (journey 0 plan readings path) ≡ true
   unfolding arrives
   stops-with readings each fails =
-      ⊎-elim (λ well. absurd (never (sym fails ∙ well))) (λ s. s)
+      ⊎-elim (λ well. absurd (false≢true (sym fails ∙ well))) (λ s. s)
       (ends (asked layout itinerary earliest latest path e) readings each)

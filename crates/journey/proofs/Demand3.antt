@@ -1,48 +1,34 @@
 -- Demand 3: of each call that 2 to 4 and 23 to 25 let through, the check passes exactly if the path travels.
 -- Assumes nothing.
 use mathlib.Core.Path.{_≡_, refl, sym, _∙_}
-use mathlib.Core.Bool.{Bool, true, false, not, _&&_, cond}
+use mathlib.Core.Bool.{Bool, true, false, cond, false≢true}
 use mathlib.Core.List.{List, [], _∷_}
 use mathlib.Core.Logic.{_↔_}
-use Prim.Native.Nat.{ℕ, zero, suc, _+_, _-_, _≤_, _<_}
+use Prim.Native.Nat.{ℕ, zero, suc, _+_, _≤_, _<_}
 use native.Mathlib.Omega.{arith}
-use borrow.Author.Tests.{eqb-true, eqb-false, leb-true, not-true}
-use lib.Dec.{eqb, leb}
 use lib.ListN.{length, getD, replicate, length-replicate, getD-replicate}
+use Rattle.octets.proofs.Bools.{first-of}
 use Rattle.standard_path.specs.Mac.{macChainingBeta}
-use Rattle.standard_path.specs.Fields.{currInf, currHf, consIngressAlert, consEgressAlert, seg0Len, consDir, segId}
-use Rattle.standard_path.specs.Header.{infos, hops, headerSize, infoField, hopField}
+use Rattle.standard_path.specs.Fields.{seg0Len, consDir, segId}
+use Rattle.standard_path.specs.Header.{infoField}
 use Rattle.standard_path.proofs.Kept.{kept-self}
 use Rattle.interface_table.specs.Table.{tableSound}
-use Rattle.routing.specs.Place.{before}
 use Rattle.routing.proofs.Touched.{same-info}
 use Rattle.itinerary.specs.Layout.{Layout}
-use Rattle.itinerary.specs.Records.{every}
-use Rattle.itinerary.specs.Itinerary.{Station, stations, itinerarySound, arrivalsFit, tablesSound, itineraryFits, fitsWithin}
-use Rattle.journey.specs.declared.answer.Verdict.{Verdict}
+use Rattle.itinerary.specs.Itinerary.{Station, stations}
 use Rattle.journey.specs.declared.answer.Verdict.the-variants.{Passed, NotPassed}
-use Rattle.journey.specs.Check.{countOf, noStation, chainedSegId, macsFrom, all, passes}
+use Rattle.journey.specs.Check.{countOf, noStation, chainedSegId, macsFrom, passes}
 use Rattle.journey.specs.Journey.{stepAt, goesOn, delivers, journey, endedWell, arrives, Readings, Travels, Demand3}
-use Rattle.journey.specs.Verdict.{stationCount, quiet, Question, questions, firstNo, journeyCheck, letThrough}
-use Rattle.journey.proofs.Quiet.{Quiet}
-use Rattle.journey.proofs.Yes.{first-of, second-of}
+use Rattle.journey.specs.Verdict.{questions, journeyCheck}
 use Rattle.journey.proofs.FirstStation.{placed-yes, first-long}
 use Rattle.journey.proofs.Stands.{Stands, arrivingSegId}
 use Rattle.journey.proofs.Hops.{Hop}
-use Rattle.journey.proofs.Steps.{Given}
-use Rattle.journey.proofs.Along.{Along, AllReached, well-along, along-well, well-last, well-more, refused-not-on, refused-not-delivered, never}
-use Rattle.journey.proofs.Facts.{Shape, AllFacts, first-of-shape, along-facts, facts-along, along-shape}
-use Rattle.journey.proofs.Parts.{all-at, Counted, passes-shape, check-facts, facts-check}
-
--- ---- what the questions let through
-
-pub record Asked (path : List ℕ) (stations : List Station) (earliest latest : ℕ) : Type 0 where
-  pub given : Given path
-  pub counted : Counted path stations
-  pub sound : (k : ℕ) → k < length stations → tableSound (getD stations k noStation .ids) (getD stations k noStation .states) ≡ true
-  pub ordered : earliest ≤ latest
-  pub hf : currHf path ≡ 0
-  pub inf : currInf path ≡ 0
+use Rattle.journey.proofs.Along.{Along, AllReached, well-along, along-well, well-last, well-more}
+use Rattle.journey.proofs.AtStation.{refused-not-on, refused-not-delivered}
+use Rattle.journey.proofs.Lengths.{Shape, first-of-shape}
+use Rattle.journey.proofs.Facts.{AllFacts, along-facts, facts-along, along-shape}
+use Rattle.journey.proofs.Parts.{passes-shape, check-facts, facts-check}
+use Rattle.journey.proofs.LetThrough.{Asked, asked, first-no-none}
 
 module _ {path : List ℕ} {stations : List Station} {earliest latest : ℕ} (a : Asked path stations earliest latest) where
   -- the path stands at its first hop
@@ -96,8 +82,8 @@ module _ {path : List ℕ} {stations : List Station} {earliest latest : ℕ} (a 
   arrives-long : (all : List Station) (readings : List ℕ) → endedWell (0 + length all) (journey 0 all readings path) ≡ true
       → 2 ≤ seg0Len path
   unfolding endedWell journey
-  arrives-long [] readings e = absurd (never e)
-  arrives-long (station ∷ rest) [] e = absurd (never e)
+  arrives-long [] readings e = absurd (false≢true e)
+  arrives-long (station ∷ rest) [] e = absurd (false≢true e)
   arrives-long (station ∷ []) (reading ∷ readings) e =
       first-long path (a .hf) (a .inf)
       (placed-yes delivers refused-not-delivered station reading path (sym (well-last 0 station reading readings path) ∙ e))
@@ -174,85 +160,7 @@ module _ {path : List ℕ} {stations : List Station} {earliest latest : ℕ} (a 
   pub check-travels : (passes stations earliest latest path ≡ true) ↔ Travels stations earliest latest path
   check-travels = (passes-travels, travels-passes)
 
--- ---- from the questions
-
-every-at : {A : Type 0} (holds : A → Bool) (xs : List A) (none : A) → every holds xs ≡ true → (k : ℕ) → k < length xs
-    → holds (getD xs k none) ≡ true
-unfolding every
-every-at holds [] none e k l = absurd (omega arith)
-every-at holds (x ∷ xs) none e zero l = first-of (holds x) (every holds xs) e
-every-at holds (x ∷ xs) none e (suc k) l = every-at holds xs none (second-of (holds x) (every holds xs) e) k (omega arith)
-
-first-arrival : (all : List Station) → arrivalsFit all ≡ true → getD all 0 noStation .arrival ≡ 0
-unfolding arrivalsFit
-first-arrival [] e = refl
-first-arrival (station ∷ rest) e = eqb-true _ _ (first-of (eqb (station .arrival) 0) _ e)
-
-later-arrivals : (all : List Station) → arrivalsFit all ≡ true → (k : ℕ) → 1 ≤ k → k < length all → getD all k noStation .arrival ≡ 0 → ⊥
-unfolding arrivalsFit
-later-arrivals [] e k some l = absurd (omega arith)
-later-arrivals (station ∷ rest) e zero some l = absurd (omega arith)
-later-arrivals (station ∷ rest) e (suc k) some l =
-    eqb-false _ _
-    (not-true _
-    (every-at (λ station. not (eqb (station .arrival) 0)) rest noStation (second-of (eqb (station .arrival) 0) _ e) k (omega arith)))
-
-pub infos-few : (path : List ℕ) → infos path ≤ hops path
-unfolding infos hops
-infos-few path = omega arith
-
-module _ (layout : Layout) (itinerary : List ℕ) (earliest latest : ℕ) (path : List ℕ)
-    (e : letThrough (questions layout itinerary earliest latest path) ≡ true) where
-  abbrev all-stations : List Station
-  all-stations = stations layout itinerary
-
-  quiet-at : quiet path ≡ true → (j : ℕ) → j < hops path → Quiet (hopField path j)
-  unfolding quiet
-  quiet-at q j l =
-      let here = all-at (hops path) (λ j. not (consIngressAlert (hopField path j)) && not (consEgressAlert (hopField path j))) q j l in
-      record {
-        into = not-true _ (first-of (not (consIngressAlert (hopField path j))) _ here);
-        out = not-true _ (second-of (not (consIngressAlert (hopField path j))) _ here);
-      }
-
-  pub asked : Asked path all-stations earliest latest
-  unfolding letThrough fitsWithin tablesSound
-  asked =
-      let from-3 = second-of (leb 4 (length path)) _ e in
-      let from-4 = second-of (leb (headerSize path) (length path)) _ from-3 in
-      let from-23 = second-of (leb (hops path) 64) _ from-4 in
-      let from-24 = second-of (itineraryFits layout itinerary (stationCount path) && leb earliest latest) _ from-23 in
-      let from-25 = second-of (eqb (currHf path) 0 && eqb (currInf path) 0) _ from-24 in
-      let plan = first-of (itineraryFits layout itinerary (stationCount path) && leb earliest latest) _ from-23 in
-      let place = first-of (eqb (currHf path) 0 && eqb (currInf path) 0) _ from-24 in
-      let fits = first-of (itineraryFits layout itinerary (stationCount path)) _ plan in
-      let three = first-of _ (tablesSound all-stations) fits in
-      let two = first-of _ (arrivalsFit all-stations) three in
-      let many : length all-stations ≡ stationCount path = eqb-true _ _ (second-of (itinerarySound layout itinerary) _ two) in
-      let arrivals = second-of (itinerarySound layout itinerary && eqb (length all-stations) (stationCount path)) _ three in
-      record {
-        given = record {
-          room = leb-true _ _ (first-of (leb (headerSize path) (length path)) _ from-3);
-          few = leb-true _ _ (first-of (leb (hops path) 64) _ from-4);
-          quiet = quiet-at (first-of (quiet path) true from-25);
-        };
-        counted = record {
-          many = omega (arith, many, infos-few path);
-          first = first-arrival all-stations arrivals;
-          later = later-arrivals all-stations arrivals;
-        };
-        sound = every-at (λ station. tableSound (station .ids) (station .states)) all-stations noStation
-            (second-of ((itinerarySound layout itinerary && eqb (length all-stations) (stationCount path)) && arrivalsFit all-stations) _ fits);
-        ordered = leb-true _ _ (second-of (itineraryFits layout itinerary (stationCount path)) _ plan);
-        hf = eqb-true _ _ (first-of (eqb (currHf path) 0) _ place);
-        inf = eqb-true _ _ (second-of (eqb (currHf path) 0) _ place);
-      }
-
-pub first-no-none : (qs : List Question) (verdict : Verdict) → letThrough qs ≡ true → firstNo qs verdict ≡ verdict
-unfolding letThrough firstNo
-first-no-none [] verdict e = refl
-first-no-none (question ∷ more) verdict e =
-    rw (first-of (question .0) _ e) (first-no-none more verdict (second-of (question .0) _ e))
+-- ---- the theorem
 
 pub demand-3 : (layout : Layout) (itinerary : List ℕ) (earliest latest : ℕ) (path : List ℕ)
     → Demand3 layout itinerary earliest latest path (journeyCheck layout itinerary earliest latest path)

@@ -6,82 +6,13 @@ use mathlib.Core.List.{List, [], _∷_}
 use Prim.Native.Nat.{ℕ, zero, suc, _+_, _≤_, _<_}
 use native.Mathlib.Omega.{arith}
 use lib.ListN.{length, getD}
-use Rattle.standard_path.specs.Fields.{seg0Len, seg1Len, seg2Len}
 use Rattle.standard_path.specs.Header.{infos, hops}
 use Rattle.itinerary.specs.Itinerary.{Station}
 use Rattle.journey.specs.Check.{startOf, countOf, noStation}
 use Rattle.journey.proofs.Hops.{Hop, Kind, middle, last, joint, kind, in-header, start-next, next-in-header, hop-ahead, hop-across}
-use Rattle.journey.proofs.Along.{hopGood, linkGood, wayGood, Along, arrive, ahead, across}
-
--- ---- lengths that fit: one, two or three segments of two hops or more
-
-pub data Shape (path : List ℕ) : Type 0 where
-  one : 2 ≤ seg0Len path → seg1Len path ≡ 0 → seg2Len path ≡ 0 → Shape path
-  two : 2 ≤ seg0Len path → 2 ≤ seg1Len path → seg2Len path ≡ 0 → Shape path
-  three : 2 ≤ seg0Len path → 2 ≤ seg1Len path → 2 ≤ seg2Len path → Shape path
-
-pub at-most-three : (path : List ℕ) (t : ℕ) → t < infos path → t < 3
-unfolding infos
-at-most-three path t h = omega arith
-
-module _ {path : List ℕ} where
-  -- each segment with an info field has two hops or more
-  pub all-long : Shape path → (t : ℕ) → t < infos path → 2 ≤ countOf path t
-  unfolding infos
-  all-long (one a b c) zero h = a
-  all-long (one a b c) (suc t) h = absurd (omega arith)
-  all-long (two a b c) zero h = a
-  all-long (two a b c) (suc zero) h = b
-  all-long (two a b c) (suc (suc t)) h = absurd (omega arith)
-  all-long (three a b c) zero h = a
-  all-long (three a b c) (suc zero) h = b
-  all-long (three a b c) (suc (suc zero)) h = c
-  all-long (three a b c) (suc (suc (suc t))) h = absurd (omega arith)
-
-  pub first-of-shape : Shape path → 2 ≤ seg0Len path
-  first-of-shape (one a b c) = a
-  first-of-shape (two a b c) = a
-  first-of-shape (three a b c) = a
-
-  pub hop-of : Shape path → (t m : ℕ) → t < infos path → m < countOf path t → Hop path t m
-  hop-of shape t m h w = record { third = at-most-three path t h; long = λ u l. all-long shape u (omega arith); within = w }
-
-  -- the station of a hop is among those that 23 counts
-  pub station-among : Shape path → (t m : ℕ) → t < infos path → m < countOf path t → startOf path t + m + infos path ≤ hops path + t
-  unfolding infos hops
-  station-among (one a b c) zero m h w = omega arith
-  station-among (one a b c) (suc t) m h w = absurd (omega arith)
-  station-among (two a b c) zero m h w = omega arith
-  station-among (two a b c) (suc zero) m h w = omega arith
-  station-among (two a b c) (suc (suc t)) m h w = absurd (omega arith)
-  station-among (three a b c) zero m h w = omega arith
-  station-among (three a b c) (suc zero) m h w = omega arith
-  station-among (three a b c) (suc (suc zero)) m h w = omega arith
-  station-among (three a b c) (suc (suc (suc t))) m h w = absurd (omega arith)
-
-  -- the segment that ends the path is the last
-  pub last-segment : Shape path → (t : ℕ) → t < infos path → startOf path t + countOf path t ≡ hops path → t + 1 ≡ infos path
-  unfolding infos hops
-  last-segment (one a b c) zero h e = omega arith
-  last-segment (one a b c) (suc t) h e = absurd (omega arith)
-  last-segment (two a b c) zero h e = absurd (omega arith)
-  last-segment (two a b c) (suc zero) h e = omega arith
-  last-segment (two a b c) (suc (suc t)) h e = absurd (omega arith)
-  last-segment (three a b c) zero h e = absurd (omega arith)
-  last-segment (three a b c) (suc zero) h e = absurd (omega arith)
-  last-segment (three a b c) (suc (suc zero)) h e = omega arith
-  last-segment (three a b c) (suc (suc (suc t))) h e = absurd (omega arith)
-
-  -- no hop starts before its segment's number of stations
-  pub start-enough : Shape path → (t : ℕ) → t < infos path → t ≤ startOf path t
-  unfolding infos
-  start-enough shape zero h = omega arith
-  start-enough (one a b c) (suc t) h = absurd (omega arith)
-  start-enough (two a b c) (suc zero) h = omega arith
-  start-enough (two a b c) (suc (suc t)) h = absurd (omega arith)
-  start-enough (three a b c) (suc zero) h = omega arith
-  start-enough (three a b c) (suc (suc zero)) h = omega arith
-  start-enough (three a b c) (suc (suc (suc t))) h = absurd (omega arith)
+use Rattle.journey.proofs.Lengths.{Shape, one, two, three, at-most-three, all-long, station-among, last-segment, Enough}
+use Rattle.journey.proofs.AtStation.{hopGood, linkGood, wayGood}
+use Rattle.journey.proofs.Along.{Along, arrive, ahead, across}
 
 -- ---- two hops at one station: the same, or the two of a joint
 
@@ -169,14 +100,9 @@ module _ {path : List ℕ} (shape : Shape path) where
 
   -- ---- the other way
 
-  -- as many stations as are left
-  abbrev Left : ℕ → ℕ → List Station → List ℕ → Type 0
-  Left t m stations readings =
-      (length stations + (startOf path t + m) + infos path ≡ hops path + 1 + t) × (length readings ≡ length stations)
-
   abbrev Onward : List Station → List ℕ → Type 0
   Onward stations readings =
-      (t m : ℕ) → Hop path t m → Left t m stations readings → AllFacts path t m stations readings → Along path t m stations readings
+      (t m : ℕ) → Hop path t m → Enough path t m stations readings → AllFacts path t m stations readings → Along path t m stations readings
 
   one-on : (station : Station) (stations : List Station) (reading : ℕ) (readings : List ℕ) → Onward stations readings
       → Onward (station ∷ stations) (reading ∷ readings)

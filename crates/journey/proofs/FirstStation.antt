@@ -7,6 +7,7 @@ use Prim.Native.Nat.{ℕ, _+_, _≤_, _<_}
 use native.Mathlib.Omega.{arith}
 use borrow.Author.Tests.{eqb-true, eqb-false, not-true, ltb-true}
 use lib.Dec.{eqb, ltb}
+use Rattle.octets.proofs.Bools.{first-of, second-of}
 use Rattle.standard_path.specs.Fields.{currInf, currHf, seg0Len, seg1Len}
 use Rattle.standard_path.specs.Header.{hops, segmentOf}
 use Rattle.validator.specs.Questions.{Questions}
@@ -21,7 +22,7 @@ use Rattle.routing.specs.Step.{keyMac}
 use Rattle.routing.proofs.Whole.{step-asks}
 use Rattle.itinerary.specs.Itinerary.{Station}
 use Rattle.journey.specs.Journey.{stepAt}
-use Rattle.journey.proofs.Yes.{first-of, second-of, yes, yes-append, second-through}
+use Rattle.journey.proofs.Yes.{yes, yes-append, second-through}
 
 -- 5, 6 and 7; the rest of the place's questions is 8
 abbrev pub firstThree : List ℕ → Questions

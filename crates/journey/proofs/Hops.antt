@@ -1,7 +1,7 @@
 -- Hops by segment and place: hop m of segment t is in the middle of its segment, or the last of the path, or at a joint.
 -- Assumes nothing.
 use mathlib.Core.Path.{_≡_, refl, ap, sym, _∙_}
-use mathlib.Core.Bool.{Bool, true, false, not, _&&_, _||_}
+use mathlib.Core.Bool.{Bool, true, false, not, _&&_, _||_, and-false}
 use mathlib.Core.List.{List}
 use Prim.Native.Nat.{ℕ, zero, suc, _+_, _≤_, _<_}
 use native.Mathlib.Omega.{arith}
@@ -16,7 +16,7 @@ use Rattle.validator.proofs.Asked.{both-yes, none-asked}
 use Rattle.routing.specs.Place.{segment, starts, ends, isFinal, changes, ingressPlace}
 use Rattle.routing.proofs.Inside.{insideQuestions}
 use Rattle.journey.specs.Check.{startOf, countOf}
-use Rattle.journey.proofs.Yes.{and-false, isValid, yes, valid-yes}
+use Rattle.journey.proofs.Yes.{isValid, yes, valid-yes}
 use Rattle.journey.proofs.Stands.{Stands}
 
 -- ---- hop m of segment t, where this segment and all before it have two hops or more

@@ -3,10 +3,14 @@ pub mod Stands
 pub mod Hops
 pub mod Yes
 pub mod Steps
+pub mod AtStation
 pub mod Along
+pub mod All
+pub mod Lengths
 pub mod Facts
 pub mod Parts
 pub mod FirstStation
+pub mod LetThrough
 pub mod Demand3
 pub mod Readings
 pub mod Stops

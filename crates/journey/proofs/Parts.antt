@@ -1,14 +1,15 @@
 -- The check by parts, and the facts of each hop: the check passes exactly if each hop is good at every reading from earliest to latest.
 -- Assumes nothing.
-use mathlib.Core.Path.{_≡_, refl, sym, subst, _∙_}
-use mathlib.Core.Bool.{Bool, true, false, not, _&&_, _||_}
+use mathlib.Core.Path.{_≡_, refl, subst, _∙_}
+use mathlib.Core.Bool.{Bool, true, _&&_, _||_, or-assoc}
 use mathlib.Core.List.{List}
 use Prim.Native.Nat.{ℕ, zero, suc, _+_, _-_, _≤_, _<_}
 use native.Mathlib.Omega.{arith}
 use native.Mathlib.Nat.{le-trans}
-use borrow.Author.Tests.{eqb-true, eqb-false, eq-eqb, ne-eqb, le-leb, lt-leb, leb-true, leb-false, not-true}
+use borrow.Author.Tests.{eqb-false, eq-eqb, ne-eqb, le-leb, lt-leb, leb-true, leb-false}
 use lib.Dec.{eqb, leb}
 use lib.ListN.{length, getD}
+use Rattle.octets.proofs.Bools.{both, each-of-3, each-of-4, first-of, second-of, either, other-of}
 use Rattle.standard_path.specs.Fields.{seg0Len, seg1Len, seg2Len, consDir, timestamp, expTime, travelIngress, travelEgress, expiry}
 use Rattle.standard_path.specs.Header.{infos, hops, infoField}
 use Rattle.interface_table.specs.Table.{stateOf, pairAllowed}
@@ -17,91 +18,13 @@ use Rattle.interface_table.specs.declared.Listed.the-variants.{State, Nothing}
 use Rattle.validator.specs.Check.{isListed, linkOf}
 use Rattle.routing.specs.Step.{isUpListed}
 use Rattle.itinerary.specs.Itinerary.{Station}
-use Rattle.journey.specs.Check.{all, longEnough, lengthsFit, macFits, arrivesBy, leavesBy, hopFits, segmentFits, jointFits, startOf, countOf, hopOf, noStation, stationOf, segmentPasses, jointPasses, passes}
-use Rattle.journey.proofs.Yes.{both, first-of, second-of, yes}
+use Rattle.journey.specs.Check.{all, lengthsFit, macFits, arrivesBy, leavesBy, hopFits, segmentFits, jointFits, startOf, countOf, hopOf, noStation, stationOf, segmentPasses, jointPasses, passes}
+use Rattle.journey.proofs.Yes.{yes}
+use Rattle.journey.proofs.All.{all-at, all-of}
 use Rattle.journey.proofs.Hops.{start-next}
-use Rattle.journey.proofs.Along.{linkGood, never}
-use Rattle.journey.proofs.Facts.{Shape, at-most-three, one, two, three, all-long, station-among, start-enough, HopFacts, AllFacts}
-
--- ---- tests over all numbers below a bound, and either of two tests
-
-pub all-at : (n : ℕ) (holds : ℕ → Bool) → all n holds ≡ true → (k : ℕ) → k < n → holds k ≡ true
-unfolding all
-all-at zero holds e k l = absurd (omega arith)
-all-at (suc n) holds e k l = go (λ m. all-at n holds (first-of (all n holds) (holds n) e) k m) (eqb k n) refl
-  where
-    go : (k < n → holds k ≡ true) → (last : Bool) → eqb k n ≡ last → holds k ≡ true
-    go below true q = rw (eqb-true k n q) (second-of (all n holds) (holds n) e)
-    go below false q = below (omega (arith, eqb-false k n q))
-
-pub all-of : (n : ℕ) (holds : ℕ → Bool) → ((k : ℕ) → k < n → holds k ≡ true) → all n holds ≡ true
-unfolding all
-all-of zero holds f = refl
-all-of (suc n) holds f = both (all-of n holds (λ k l. f k (omega arith))) (f n (omega arith))
-
-other-of : (x y : Bool) → x ≡ false → (x || y) ≡ true → y ≡ true
-other-of x y e h = rw e at h
-
-either : (x y : Bool) → (x ≡ false → y ≡ true) → (x || y) ≡ true
-either true y f = refl
-either false y f = f refl
-
-right : (x y : Bool) → y ≡ true → (x || y) ≡ true
-right true y e = refl
-right false y e = e
-
--- ---- the lengths
-
-two-or-more : (n : ℕ) → longEnough n ≡ true → eqb n 0 ≡ false → 2 ≤ n
-two-or-more n e f = leb-true 2 n (other-of (eqb n 0) (leb 2 n) f e)
-
-pub fit-shape : (path : List ℕ) → lengthsFit (seg0Len path) (seg1Len path) (seg2Len path) ≡ true → Shape path
-unfolding lengthsFit
-fit-shape path e = go (eqb (seg1Len path) 0) refl (eqb (seg2Len path) 0) refl
-  where
-    first : Bool
-    first = not (eqb (seg0Len path) 0)
-
-    gap : Bool
-    gap = not (eqb (seg1Len path) 0) || eqb (seg2Len path) 0
-
-    up-to-second : (((first && gap) && longEnough (seg0Len path)) && longEnough (seg1Len path)) ≡ true
-    up-to-second = first-of _ (longEnough (seg2Len path)) e
-
-    up-to-first : ((first && gap) && longEnough (seg0Len path)) ≡ true
-    up-to-first = first-of _ (longEnough (seg1Len path)) up-to-second
-
-    begun : (first && gap) ≡ true
-    begun = first-of (first && gap) (longEnough (seg0Len path)) up-to-first
-
-    seg0 : 2 ≤ seg0Len path
-    seg0 = two-or-more (seg0Len path) (second-of (first && gap) _ up-to-first) (not-true _ (first-of first gap begun))
-
-    go : (no1 : Bool) → eqb (seg1Len path) 0 ≡ no1 → (no2 : Bool) → eqb (seg2Len path) 0 ≡ no2 → Shape path
-    go true p true q = one seg0 (eqb-true _ _ p) (eqb-true _ _ q)
-    go true p false q = absurd (never (sym (rw (p, q)) ∙ second-of first gap begun))
-    go false p true q =
-        two seg0 (two-or-more (seg1Len path) (second-of ((first && gap) && longEnough (seg0Len path)) _ up-to-second) p) (eqb-true _ _ q)
-    go false p false q =
-        three seg0 (two-or-more (seg1Len path) (second-of ((first && gap) && longEnough (seg0Len path)) _ up-to-second) p)
-        (two-or-more (seg2Len path) (second-of (((first && gap) && longEnough (seg0Len path)) && longEnough (seg1Len path)) _ e) q)
-
-long-two : (n : ℕ) → 2 ≤ n → longEnough n ≡ true
-long-two n h = right (eqb n 0) (leb 2 n) (le-leb 2 n h)
-
-some-two : (n : ℕ) → 2 ≤ n → not (eqb n 0) ≡ true
-some-two n h = rw (ne-eqb n 0 (λ (e : n ≡ 0). omega arith))
-
-shape-fit : {path : List ℕ} → Shape path → lengthsFit (seg0Len path) (seg1Len path) (seg2Len path) ≡ true
-unfolding lengthsFit
-shape-fit {path} (one a b c) =
-    both (both (both (both (some-two _ a) (rw (eq-eqb _ _ c) (right (not (eqb (seg1Len path) 0)) true refl))) (long-two _ a)) (rw (eq-eqb _ _ b)))
-    (rw (eq-eqb _ _ c))
-shape-fit {path} (two a b c) =
-    both (both (both (both (some-two _ a) (rw (eq-eqb _ _ c) (right (not (eqb (seg1Len path) 0)) true refl))) (long-two _ a)) (long-two _ b))
-    (rw (eq-eqb _ _ c))
-shape-fit {path} (three a b c) =
-    both (both (both (both (some-two _ a) (rw (some-two _ b))) (long-two _ a)) (long-two _ b)) (long-two _ c)
+use Rattle.journey.proofs.AtStation.{linkGood}
+use Rattle.journey.proofs.Lengths.{Shape, at-most-three, all-long, station-among, start-enough, fit-shape, shape-fit}
+use Rattle.journey.proofs.Facts.{HopFacts, AllFacts}
 
 -- ---- what is read of a station that 9 lets in
 
@@ -115,11 +38,7 @@ local-let-in station info hop e = rw (eq-eqb _ _ e)
 
 arrives-let-in : (station : Station) (info hop : List ℕ) → arrivesBy station info hop ≡ true → letIn station info hop ≡ true
 unfolding arrivesBy
-arrives-let-in station info hop = go (eqb (station .arrival) 0) _ _
-  where
-    go : (x y z : Bool) → (y || z) ≡ true → ((x || y) || z) ≡ true
-    go true y z e = refl
-    go false y z e = e
+arrives-let-in station info hop e = or-assoc (eqb (station .arrival) 0) _ _ ∙ either (eqb (station .arrival) 0) _ (λ outside. e)
 
 let-in-arrives : (station : Station) (info hop : List ℕ) → (station .arrival ≡ 0 → ⊥) → letIn station info hop ≡ true
     → arrivesBy station info hop ≡ true
@@ -162,21 +81,19 @@ module _ (stations : List Station) (earliest latest : ℕ) (path : List ℕ) whe
     abbrev fits : Bool
     fits = lengthsFit (seg0Len path) (seg1Len path) (seg2Len path)
 
-    begun : (fits && all (infos path) (segmentPasses stations earliest latest path)) ≡ true
+    parts : (fits ≡ true) × (all (infos path) (segmentPasses stations earliest latest path) ≡ true)
+        × (all (infos path - 1) (jointPasses stations path) ≡ true)
     unfolding passes
-    begun = first-of _ (all (infos path - 1) (jointPasses stations path)) e
+    parts = each-of-3 fits _ _ e
 
     pub passes-shape : Shape path
-    passes-shape = fit-shape path (first-of fits _ begun)
+    passes-shape = fit-shape path (parts .0)
 
     segment-passes : (t : ℕ) → t < infos path → segmentPasses stations earliest latest path t ≡ true
-    segment-passes t h = all-at (infos path) (segmentPasses stations earliest latest path) (second-of fits _ begun) t h
+    segment-passes t h = all-at (infos path) (segmentPasses stations earliest latest path) (parts .1) t h
 
     joint-passes : (t : ℕ) → t + 1 < infos path → jointPasses stations path t ≡ true
-    unfolding passes
-    joint-passes t h =
-        all-at (infos path - 1) (jointPasses stations path)
-        (second-of (fits && all (infos path) (segmentPasses stations earliest latest path)) _ e) t (omega arith)
+    joint-passes t h = all-at (infos path - 1) (jointPasses stations path) (parts .2) t (omega arith)
 
     early : (t : ℕ) → t < infos path → timestamp (infoField path t) ≤ earliest
     unfolding segmentPasses segmentFits
@@ -201,18 +118,14 @@ module _ (stations : List Station) (earliest latest : ℕ) (path : List ℕ) whe
     fitting t m h w =
         let station = stationOf stations path t m in
         let info = infoField path t in
-        let life = leb latest (expiry (timestamp info) (expTime (hopOf path t m))) in
-        let right-mac = macFits station info (hopOf path t) m in
-        let came = eqb m 0 || arrivesBy station info (hopOf path t m) in
-        let goes = leb (countOf path t) (m + 1) || leavesBy station info (hopOf path t m) in
-        let all-four = hop-fits t m h w in
-        let first-three = first-of ((life && right-mac) && came) goes all-four in
-        let first-two = first-of (life && right-mac) came first-three in
+        let held = each-of-4 (leb latest (expiry (timestamp info) (expTime (hopOf path t m)))) (macFits station info (hopOf path t) m)
+        (eqb m 0 || arrivesBy station info (hopOf path t m)) (leb (countOf path t) (m + 1) || leavesBy station info (hopOf path t m))
+        (hop-fits t m h w) in
         record {
-          late = leb-true _ _ (first-of life right-mac first-two);
-          mac = second-of life right-mac first-two;
-          came = λ k. other-of (eqb m 0) _ (ne-eqb m 0 (λ (q : m ≡ 0). omega arith)) (second-of (life && right-mac) came first-three);
-          goes = λ k. other-of (leb (countOf path t) (m + 1)) _ (lt-leb _ _ k) (second-of ((life && right-mac) && came) goes all-four);
+          late = leb-true _ _ (held .0);
+          mac = held .1;
+          came = λ k. other-of (eqb m 0) _ (ne-eqb m 0 (λ (q : m ≡ 0). omega arith)) (held .2);
+          goes = λ k. other-of (leb (countOf path t) (m + 1)) _ (lt-leb _ _ k) (held .3);
         }
 
     -- a joint, with its station's number
@@ -230,13 +143,8 @@ module _ (stations : List Station) (earliest latest : ℕ) (path : List ℕ) whe
         let station = stationOf stations path (t + 1) 0 in
         let into = stateOf (station .ids) (station .states) (travelIngress (consDir (infoField path t)) (hopOf path t (countOf path t - 1))) in
         let out = stateOf (station .ids) (station .states) (travelEgress (consDir (infoField path (t + 1))) (hopOf path (t + 1) 0)) in
-        let all-three = joint-passes t h in
-        let first-two = first-of (isListed into && pairAllowed (linkOf into) (linkOf out)) _ all-three in
-        record {
-          listed = first-of (isListed into) _ first-two;
-          allowed = second-of (isListed into) _ first-two;
-          came = second-of (isListed into && pairAllowed (linkOf into) (linkOf out)) _ all-three;
-        }
+        let held = each-of-3 (isListed into) (pairAllowed (linkOf into) (linkOf out)) _ (joint-passes t h) in
+        record { listed = held .0; allowed = held .1; came = held .2 }
 
     module _ (counted : Counted path stations) where
       -- 9, at the station of a hop

@@ -6,6 +6,7 @@ use mathlib.Core.List.{List, [], _∷_}
 use Prim.Native.Nat.{ℕ, suc, _≤_}
 use native.Mathlib.Omega.{arith}
 use lib.Dec.{eqb}
+use Rattle.octets.proofs.Bools.{first-of}
 use Rattle.standard_path.specs.Fields.{consDir, travelEgress, travelEgressAlert}
 use Rattle.validator.specs.Questions.{firstNo}
 use Rattle.validator.specs.declared.answer.Validation.{Validation}
@@ -22,7 +23,6 @@ use Rattle.routing.specs.Step.{keyMac}
 use Rattle.routing.proofs.Inside.{insideQuestions}
 use Rattle.routing.proofs.Whole.{step-asks, checks, leavingChecks}
 use Rattle.itinerary.specs.Itinerary.{Station}
-use Rattle.journey.proofs.Yes.{first-of}
 use Rattle.journey.specs.Journey.{stepAt, endedAt, goesOn, someLeft, orEnds, journey}
 
 -- an answer that egress gave, with its move done

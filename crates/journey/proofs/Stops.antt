@@ -1,14 +1,15 @@
 -- A journey that 23 to 25 let begin arrives, or a station refuses the path with 5, 6, 7, 9 to 12 or 14 to 18.
 -- Assumes nothing.
 use mathlib.Core.Path.{_≡_, refl, sym, _∙_}
-use mathlib.Core.Bool.{Bool, true, false, _&&_, _||_}
+use mathlib.Core.Bool.{Bool, true, false, _&&_, _||_, false≢true}
 use mathlib.Core.List.{List, [], _∷_}
 use mathlib.Core.Logic.{_⊎_, inl, inr, ⊎-elim}
-use Prim.Native.Nat.{ℕ, zero, suc, _+_, _≤_, _<_}
+use Prim.Native.Nat.{ℕ, suc, _+_, _<_}
 use native.Mathlib.Omega.{arith}
 use lib.Dec.{eqb}
 use lib.ListN.{length}
-use Rattle.standard_path.specs.Header.{infos, hops}
+use Rattle.octets.proofs.Bools.{first-of, second-of}
+use Rattle.standard_path.specs.Header.{hops}
 use Rattle.validator.specs.Answer.{refusalNumber}
 use Rattle.validator.specs.Questions.{Questions, firstNo}
 use Rattle.validator.specs.declared.answer.StandardRoutingError.{StandardRoutingError}
@@ -22,11 +23,12 @@ use Rattle.routing.proofs.Numbers.{numbers}
 use Rattle.itinerary.specs.Itinerary.{Station}
 use Rattle.journey.specs.Check.{startOf, countOf}
 use Rattle.journey.specs.Journey.{stepAt, Ended, nowhere, endedAt, goesOn, delivers, journey, endedWell}
-use Rattle.journey.proofs.Yes.{first-of, second-of}
 use Rattle.journey.proofs.Stands.{Stands, arrivingSegId}
 use Rattle.journey.proofs.Hops.{Hop, Kind, middle, last, joint, kind, in-header, start-next, next-in-header, hop-ahead, hop-across}
+use Rattle.journey.proofs.Lengths.{hops-enough, Enough}
 use Rattle.journey.proofs.Steps.{Given, Reached, hopTests, leavingTests, changeTests, enteredAt, crossedAt, forwarded, insideThen, leavingThen, middle-step, last-step, joint-step}
-use Rattle.journey.proofs.Along.{AllReached, reached-later, joint-long, middle-next, joint-next, never, well-last}
+use Rattle.journey.proofs.Along.{AllReached, reached-later, well-last}
+use Rattle.journey.proofs.AtStation.{joint-long, middle-next, joint-next}
 
 -- ---- numbers
 
@@ -96,21 +98,13 @@ module _ {path mid : List ℕ} {t m : ℕ} (g : Given path) (s : Stands path mid
 
 -- ---- all stations left
 
--- there is a station for each hop
-hops-enough : (path : List ℕ) (t m : ℕ) → Hop path t m → startOf path t + m + infos path ≤ hops path + t
-unfolding infos hops
-hops-enough path zero m h = omega (arith, h .within)
-hops-enough path (suc zero) m h = omega (arith, h .within)
-hops-enough path (suc (suc zero)) m h = omega (arith, h .within)
-hops-enough path (suc (suc (suc t))) m h = absurd (omega (arith, h .third))
-
 abbrev pub stopped : Ended → Bool
 stopped nowhere = false
 stopped (endedAt k answer left) = refusedWith stopNumbers answer
 
 refused-stays : (answer : StepAnswer) → refusedWith stopNumbers answer ≡ true → goesOn answer ≡ false
 unfolding goesOn
-refused-stays (Action action) e = absurd (never e)
+refused-stays (Action action) e = absurd (false≢true e)
 refused-stays (Refused why) e = refl
 
 -- a refusal ends the journey
@@ -133,15 +127,10 @@ abbrev pub Ends : ℕ → Ended → Type 0
 Ends count ended = (endedWell count ended ≡ true) ⊎ (stopped ended ≡ true)
 
 module _ {path : List ℕ} (g : Given path) where
-  -- as many stations as the hops left ask for, and a reading for each
-  abbrev Enough : ℕ → ℕ → List Station → List ℕ → Type 0
-  Enough t m stations readings =
-      (length stations + (startOf path t + m) + infos path ≡ hops path + 1 + t) × (length readings ≡ length stations)
-
   abbrev EndsFrom : List Station → List ℕ → ℕ → Type 0
   EndsFrom stations readings k =
       (t m : ℕ) (mid : List ℕ) → Stands path mid t m (arrivingSegId path t m) → Hop path t m → AllReached m stations
-      → Enough t m stations readings → Ends (k + length stations) (journey k stations readings mid)
+      → Enough path t m stations readings → Ends (k + length stations) (journey k stations readings mid)
 
   ends-one : (station : Station) (reading : ℕ) (readings : List ℕ) (k : ℕ) → EndsFrom (station ∷ []) (reading ∷ readings) k
   ends-one station reading readings k t m mid s h all enough = go (kind path t m h)

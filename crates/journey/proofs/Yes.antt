@@ -1,10 +1,10 @@
 -- Whether all questions of a list are answered yes; what goes through them.
 -- Assumes nothing.
 use mathlib.Core.Path.{_≡_, refl, ap, sym, _∙_}
-use mathlib.Core.Bool.{Bool, true, false, _&&_}
+use mathlib.Core.Bool.{Bool, true, false, _&&_, and-assoc, false≢true}
 use mathlib.Core.List.{List, [], _∷_, _++_}
 use Prim.Native.Nat.{ℕ}
-use native.Mathlib.Omega.{arith}
+use Rattle.octets.proofs.Bools.{first-of, second-of}
 use Rattle.validator.specs.Questions.{Questions, firstNo}
 use Rattle.validator.specs.declared.answer.StandardRoutingError.{StandardRoutingError}
 use Rattle.validator.specs.declared.answer.Validation.{Validation}
@@ -12,37 +12,6 @@ use Rattle.validator.specs.declared.answer.Validation.the-variants.{Valid, Inva
 use Rattle.validator.specs.declared.answer.StepAnswer.{StepAnswer}
 use Rattle.validator.specs.declared.answer.StepAnswer.the-variants.{Refused}
 use Rattle.routing.specs.Outcome.{Outcome, asks}
-
--- ---- conjunctions
-
-pub both : {x y : Bool} → x ≡ true → y ≡ true → (x && y) ≡ true
-both {x} {y} a b = rw a b
-
-pub first-of : (x y : Bool) → (x && y) ≡ true → x ≡ true
-first-of true y e = refl
-first-of false y e = e
-
-pub second-of : (x y : Bool) → (x && y) ≡ true → y ≡ true
-second-of true y e = e
-second-of false y e = let z : _≡_ {A = ℕ} 0 1 = cc in absurd (omega arith)
-
-pub and-assoc : (x y z : Bool) → ((x && y) && z) ≡ (x && (y && z))
-and-assoc true y z = refl
-and-assoc false y z = refl
-
-pub and-true : (x : Bool) → (x && true) ≡ x
-and-true true = refl
-and-true false = refl
-
-pub and-false : (x : Bool) → (x && false) ≡ false
-and-false true = refl
-and-false false = refl
-
--- two tests that say the same
-pub same-bool : (x y : Bool) → (x ≡ true → y ≡ true) → (y ≡ true → x ≡ true) → x ≡ y
-same-bool true y f g = sym (f refl)
-same-bool false true f g = g refl
-same-bool false false f g = refl
 
 -- ---- questions
 
@@ -66,8 +35,7 @@ yes-valid qs e = go (firstNo qs) refl
     go : (v : Validation) → firstNo qs ≡ v → firstNo qs ≡ Valid
     go Valid q = q
     go (Invalid why) q =
-        let u : isValid (Invalid why) ≡ true = ap isValid (sym q) ∙ valid-yes qs ∙ e in
-        let z : _≡_ {A = ℕ} 0 1 = cc in absurd (omega arith)
+        absurd (false≢true (ap isValid (sym q) ∙ valid-yes qs ∙ e))
 
 pub yes-append : (qs rs : Questions) → yes (qs ++ rs) ≡ (yes qs && yes rs)
 unfolding yes

@@ -6,9 +6,9 @@ use Prim.Native.Nat.{ℕ, zero, suc, _+_, _≤_, _<_}
 use native.Mathlib.Numerals.{add-one}
 use native.Mathlib.Omega.{arith}
 use borrow.Author.Tests.{not-true, not-false}
+use Rattle.octets.proofs.Bools.{both}
 use Rattle.journey.specs.Check.{all}
-use Rattle.journey.proofs.Yes.{both}
-use Rattle.journey.proofs.Parts.{all-at}
+use Rattle.journey.proofs.All.{all-at}
 
 pub record Asked (holds : ℕ → Bool) (count done : ℕ) : Type 0 where
   pub within : done ≤ count

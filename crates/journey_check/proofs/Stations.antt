@@ -8,17 +8,15 @@ use native.Mathlib.Omega.{arith}
 use borrow.Author.Tests.{eqb-true}
 use lib.Dec.{eqb, leb}
 use lib.ListN.{length, getD}
+use Rattle.octets.proofs.Bools.{each-of-4}
 use Rattle.standard_path.specs.Fields.{timestamp}
 use Rattle.standard_path.specs.Header.{infos, infoField}
 use Rattle.itinerary.specs.Layout.{Layout}
 use Rattle.itinerary.specs.Records.{recordCount, nextOf, keyOf, firstStation, chain}
-use Rattle.itinerary.specs.Itinerary.{stationRecords, stationWithin, stationAt, stations}
-use Rattle.itinerary.specs.Itinerary.{soundWithin, arrivalsFit, tablesSound, fitsWithin, itineraryFits}
+use Rattle.itinerary.specs.Itinerary.{stationRecords, stationWithin, stationAt, stations, soundWithin, fitsWithin, itineraryFits}
 use Rattle.itinerary.proofs.Stations.{count-by-records, next-record, station-from-record}
 use Rattle.journey.specs.Check.{segmentFits, jointFits, startOf, countOf, hopOf, noStation, stationOf, segmentPasses, jointPasses}
-use Rattle.journey.proofs.Facts.{Shape, all-long, station-among, start-enough}
-use Rattle.journey.proofs.Yes.{first-of, second-of}
-use Rattle.journey.proofs.Parts.{fit-shape}
+use Rattle.journey.proofs.Lengths.{Shape, all-long, station-among, start-enough, fit-shape}
 use Rattle.journey_check.specs.Records.{recordAfter}
 use Rattle.journey_check.specs.Matched.{Matched}
 use Rattle.journey_check.proofs.All.{all-same}
@@ -36,10 +34,7 @@ module _ (layout : Layout) (itinerary : List ℕ) where
   unfolding fitsWithin
   fits-counted wanted e =
       let many = recordCount layout itinerary in
-      let all-stations = stations layout itinerary in
-      let three = first-of _ (tablesSound all-stations) e in
-      let two = first-of _ (arrivalsFit all-stations) three in
-      eqb-true _ _ (second-of (soundWithin layout itinerary many many) (eqb (length all-stations) wanted) two)
+      eqb-true _ _ (each-of-4 (soundWithin layout itinerary many many) _ _ _ e .1)
 
   chain-short : (limit index : ℕ) → length (chain layout itinerary limit index) ≤ limit
   unfolding chain

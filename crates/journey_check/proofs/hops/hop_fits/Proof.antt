@@ -1,8 +1,8 @@
+use mathlib.Core.Bool.{and-true}
 use borrow.Author.Needs.{needs}
 use borrow.Author.Tests.{lt-leb, le-leb}
 use Rattle.itinerary.specs.Layout.{narrow}
 use Rattle.journey.specs.Check.{macFits, arrivesBy, leavesBy, hopFits}
-use Rattle.journey.proofs.Yes.{and-true}
 use Rattle.journey_check.proofs.Stations.{key-read}
 use Rattle.journey_check.proofs.hops.hop_fits.Statement.{statement}
 use Rattle.journey_check.proofs.hops.hop_fits.Tie as tie

@@ -2,8 +2,8 @@ use borrow.Author.Needs.{needs}
 use mathlib.Core.Path.{_∙_}
 use native.Mathlib.Omega.{arith}
 use Rattle.itinerary.specs.Layout.{narrow}
+use Rattle.journey.proofs.Lengths.{at-most-three}
 use Rattle.journey_check.proofs.Stations.{starts-behind, some-hops, joint-read}
-use Rattle.journey.proofs.Facts.{at-most-three}
 use Rattle.journey_check.proofs.joints.joint_passes.Statement.{statement}
 use Rattle.journey_check.proofs.joints.joint_passes.Tie as tie
 

@@ -1,10 +1,10 @@
 use borrow.Author.Needs.{needs}
 use mathlib.Core.Path.{sym, _∙_}
 use borrow.Author.Tests.{not-true, not-false}
+use Rattle.octets.proofs.Bools.{first-of}
 use Rattle.itinerary.specs.Layout.{narrow}
 use Rattle.journey.specs.Check.{passes}
 use Rattle.journey.specs.Verdict.{firstNo}
-use Rattle.journey.proofs.Yes.{first-of}
 use Rattle.journey_check.proofs.Stations.{fits-counted}
 use Rattle.journey_check.proofs.questions.check_complete.Statement.{statement}
 use Rattle.journey_check.proofs.questions.check_complete.Tie as tie
