@@ -89,7 +89,7 @@ fn decide_egress(forwarding_key: &[u8; 16], at: StandardValidator, path: &[u8]) 
 }
 
 // The egress half, with a validator.
-pub fn egress_with(
+pub fn advance_egress_with_validator(
     ids: &[u16],
     states: &[u8],
     forwarding_key: &[u8; 16],

@@ -289,7 +289,7 @@ fn ingress_here(
 }
 
 // The ingress half, with a validator.
-pub fn ingress_with(
+pub fn advance_ingress_with_validator(
     ids: &[u16],
     states: &[u8],
     forwarding_key: &[u8; 16],

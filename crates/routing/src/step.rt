@@ -43,7 +43,7 @@ pub fn standard_path_ingress(
         time,
         ignore_macs,
     };
-    ingress::ingress_with(ids, states, forwarding_key, at, path)
+    ingress::advance_ingress_with_validator(ids, states, forwarding_key, at, path)
 }
 
 pub fn standard_path_egress(
@@ -66,7 +66,7 @@ pub fn standard_path_egress(
         time,
         ignore_macs,
     };
-    egress::egress_with(ids, states, forwarding_key, at, path)
+    egress::advance_egress_with_validator(ids, states, forwarding_key, at, path)
 }
 
 // ---- between them

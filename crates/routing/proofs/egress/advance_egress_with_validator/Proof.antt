@@ -1,8 +1,8 @@
 use borrow.Author.Needs.{needs}
 use mathlib.Core.Path.{refl}
 use Rattle.routing.specs.Egress.{egress}
-use Rattle.routing.proofs.egress.egress_with.Statement.{statement}
-use Rattle.routing.proofs.egress.egress_with.Tie as tie
+use Rattle.routing.proofs.egress.advance_egress_with_validator.Statement.{statement}
+use Rattle.routing.proofs.egress.advance_egress_with_validator.Tie as tie
 
 returns : tie.Need-returns
 unfolding egress
@@ -18,8 +18,8 @@ returns-3 c =
     rw (← c .before .before .before .before .before .before .before .before .before .before .before .before .check-before .ensures, c .before .before .before .before .before .before .before .before .before .before .enum-told .given .1, ← c .before .before .before .before .before .before .before .before .locate-egress .ensures, c .before .before .before .before .before .before .enum-told2 .given .1)
     (c .before .before .before .before .decide-egress .ensures, c .before .before .move-egress .ensures)
 
-pub egress-with-spec : {M : Type 1} → statement M
-egress-with-spec =
+pub advance-egress-with-validator-spec : {M : Type 1} → statement M
+advance-egress-with-validator-spec =
     tie.close
     (tie.spec
     (λ c κs. search needs)

@@ -5,8 +5,8 @@ use Rattle.validator.specs.Questions.{firstNo}
 use Rattle.routing.specs.Ingress.{ingress}
 use Rattle.routing.proofs.Places.{located-here, located-nowhere}
 use Rattle.routing.specs.Place.{ingressPlace, changes, isFinal}
-use Rattle.routing.proofs.ingress.ingress_with.Statement.{statement}
-use Rattle.routing.proofs.ingress.ingress_with.Tie as tie
+use Rattle.routing.proofs.ingress.advance_ingress_with_validator.Statement.{statement}
+use Rattle.routing.proofs.ingress.advance_ingress_with_validator.Tie as tie
 
 returns : tie.Need-returns
 unfolding ingress
@@ -23,8 +23,8 @@ returns-3 c =
     let s = located-here (firstNo (ingressPlace (now (c .before .before .before .before .before .before .before .before .before .before .before .before .before .before .before .before .args .path)))) (changes (now (c .before .before .before .before .before .before .before .before .before .before .before .before .before .before .before .before .args .path))) (isFinal (now (c .before .before .before .before .before .before .before .before .before .before .before .before .before .before .before .before .args .path))) (sym (c .before .before .before .before .before .before .before .locate-ingress .ensures) ∙ c .before .before .before .before .before .change .given .1) in
     rw (← c .before .before .before .before .before .before .before .before .before .before .before .check-before .ensures, c .before .before .before .before .before .before .before .before .before .enum-told .given .1, s .valid, s .changed, s .ended) (c .before .before .ingress-here .ensures .0, c .before .before .ingress-here .ensures .1)
 
-pub ingress-with-spec : {M : Type 1} → statement M
-ingress-with-spec =
+pub advance-ingress-with-validator-spec : {M : Type 1} → statement M
+advance-ingress-with-validator-spec =
     tie.close
     (tie.spec
     (λ c κs. search needs)
