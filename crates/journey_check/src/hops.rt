@@ -4,8 +4,8 @@ use aes_cmac::cmac;
 use interface_table::Listed;
 use itinerary::record;
 use itinerary::station::lookup;
-use standard_path::mac::calculate_hop_mac_with;
 use standard_path::view;
+use validator::check::expected_mac;
 use validator::check::mac_number;
 ghost use mathlib.Core.Path.{_≡_};
 ghost use Prim.Native.Nat.{_<_};
@@ -58,17 +58,7 @@ fn mac_fits(table: &[u8; 1024], key: [u8; 16], info: &[u8], hop: &[u8], segment_
 {
     let round_keys = aes::expand_key(key);
     let k1 = cmac::subkey_with(table, round_keys);
-    let mac = calculate_hop_mac_with(
-        table,
-        round_keys,
-        k1,
-        segment_id,
-        view::timestamp(info),
-        view::exp_time(hop),
-        view::cons_ingress(hop),
-        view::cons_egress(hop),
-    );
-    mac_number(mac) == mac_number(view::mac(hop))
+    expected_mac(table, round_keys, k1, hop, info, segment_id) == mac_number(view::mac(hop))
 }
 
 pub fn arrives_by(itinerary: &[u8], station: u32, info: &[u8], hop: &[u8]) -> bool

@@ -10,6 +10,7 @@ use crate::ingress;
 use crate::place;
 use aes_cmac::aes;
 use aes_cmac::cmac;
+use standard_path::mac::ForwardingKey;
 use standard_path::moves;
 use standard_path::view;
 use validator::answer::AsRoutingAction;
@@ -27,7 +28,7 @@ ghost use Rattle.routing.specs.Egress.{egressQuestions, egressMove, egre
 ghost use Rattle.routing.specs.Step.{keyMac};
 
 // Questions 19, 10, 11 and 12.
-fn validate_egress(forwarding_key: &[u8; 16], at: StandardValidator, path: &[u8]) -> Validation
+fn validate_egress(forwarding_key: &ForwardingKey, at: StandardValidator, path: &[u8]) -> Validation
     ensures { λ r. ⌜ r ≡ firstNo (egressQuestions (keyMac (now («forwarding_key» .entry))) at (now (path .entry))) ⌝ }
 {
     let hop_index = view::curr_hop_field_idx(path);
@@ -78,7 +79,7 @@ fn move_egress(path: &mut [u8])
 }
 
 // The answer, from the path as it came.
-fn decide_egress(forwarding_key: &[u8; 16], at: StandardValidator, path: &[u8]) -> StepAnswer
+fn decide_egress(forwarding_key: &ForwardingKey, at: StandardValidator, path: &[u8]) -> StepAnswer
     ensures { λ r. ⌜ r ≡ decided (firstNo (egressQuestions (keyMac (now («forwarding_key» .entry))) at (now (path .entry))))
         (egressAction (now (path .entry))) ⌝ }
 {
@@ -92,7 +93,7 @@ fn decide_egress(forwarding_key: &[u8; 16], at: StandardValidator, path: &[u8]) 
 pub fn advance_egress_with_validator(
     ids: &[u16],
     states: &[u8],
-    forwarding_key: &[u8; 16],
+    forwarding_key: &ForwardingKey,
     at: StandardValidator,
     path: &mut [u8],
 ) -> StepAnswer

@@ -10,6 +10,7 @@ use crate::place;
 use crate::place::Located;
 use aes_cmac::aes;
 use aes_cmac::cmac;
+use standard_path::mac::ForwardingKey;
 use standard_path::mac::mac_beta_step;
 use standard_path::moves;
 use standard_path::view;
@@ -97,7 +98,7 @@ fn validate_next(ids: &[u16], states: &[u8], at: StandardValidator, path: &[u8])
 fn validate_checked(
     ids: &[u16],
     states: &[u8],
-    forwarding_key: &[u8; 16],
+    forwarding_key: &ForwardingKey,
     at: StandardValidator,
     path: &[u8],
     change: bool,
@@ -146,7 +147,7 @@ fn validate_checked(
 fn validate_ingress(
     ids: &[u16],
     states: &[u8],
-    forwarding_key: &[u8; 16],
+    forwarding_key: &ForwardingKey,
     at: StandardValidator,
     path: &[u8],
     change: bool,
@@ -253,7 +254,7 @@ fn move_ingress(path: &mut [u8], interface: u16, change: bool)
 fn decide_ingress(
     ids: &[u16],
     states: &[u8],
-    forwarding_key: &[u8; 16],
+    forwarding_key: &ForwardingKey,
     at: StandardValidator,
     path: &[u8],
     change: bool,
@@ -272,7 +273,7 @@ fn decide_ingress(
 fn ingress_here(
     ids: &[u16],
     states: &[u8],
-    forwarding_key: &[u8; 16],
+    forwarding_key: &ForwardingKey,
     at: StandardValidator,
     path: &mut [u8],
     change: bool,
@@ -292,7 +293,7 @@ fn ingress_here(
 pub fn advance_ingress_with_validator(
     ids: &[u16],
     states: &[u8],
-    forwarding_key: &[u8; 16],
+    forwarding_key: &ForwardingKey,
     at: StandardValidator,
     path: &mut [u8],
 ) -> IngressNextAction

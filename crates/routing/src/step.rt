@@ -7,6 +7,7 @@
 use crate::egress;
 use crate::ingress;
 use interface_table::Listed;
+use standard_path::mac::ForwardingKey;
 use standard_path::view;
 use validator::answer::AsRoutingAction;
 use validator::answer::IngressNextAction;
@@ -29,7 +30,7 @@ pub fn standard_path_ingress(
     path: &mut [u8],
     ingress_interface_id: u16,
     time: u32,
-    forwarding_key: &[u8; 16],
+    forwarding_key: &ForwardingKey,
     ignore_macs: bool,
 ) -> IngressNextAction
     ensures { λ r. ⌜ r ≡ ingress (now (ids .entry)) (now (states .entry)) (keyMac (now («forwarding_key» .entry)))
@@ -52,7 +53,7 @@ pub fn standard_path_egress(
     path: &mut [u8],
     egress_if_id: u16,
     time: u32,
-    forwarding_key: &[u8; 16],
+    forwarding_key: &ForwardingKey,
     ignore_macs: bool,
 ) -> StepAnswer
     ensures { λ r. ⌜ r ≡ egress (now (ids .entry)) (now (states .entry)) (keyMac (now («forwarding_key» .entry)))
@@ -118,12 +119,12 @@ pub fn handle_standard_path(
     path: &mut [u8],
     ingress_interface_id: u16,
     time: u32,
-    forwarding_key: &[u8; 16],
+    as_forwarding_key: &ForwardingKey,
     ignore_macs: bool,
 ) -> StepAnswer
-    ensures { λ r. ⌜ r ≡ step (now (ids .entry)) (now (states .entry)) (keyMac (now («forwarding_key» .entry)))
+    ensures { λ r. ⌜ r ≡ step (now (ids .entry)) (now (states .entry)) (keyMac (now («as_forwarding_key» .entry)))
         «ingress_interface_id» time «ignore_macs» (now (path .entry)) .answer ⌝ }
-    ensures { λ _. ⌜ now (path .exit) ≡ step (now (ids .entry)) (now (states .entry)) (keyMac (now («forwarding_key» .entry)))
+    ensures { λ _. ⌜ now (path .exit) ≡ step (now (ids .entry)) (now (states .entry)) (keyMac (now («as_forwarding_key» .entry)))
         «ingress_interface_id» time «ignore_macs» (now (path .entry)) .bytes ⌝ }
 {
     let next_action = standard_path_ingress(
@@ -132,7 +133,7 @@ pub fn handle_standard_path(
         path,
         ingress_interface_id,
         time,
-        forwarding_key,
+        as_forwarding_key,
         ignore_macs,
     );
     let IngressNextAction::ContinueEgress {

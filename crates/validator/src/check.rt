@@ -51,7 +51,7 @@ fn arrives(interface: u16, found: u16) -> bool
 }
 
 // The MAC that a hop should have, as a number.
-fn expected_mac(
+pub fn expected_mac(
     table: &[u8; 1024],
     round_keys: [[u8; 16]; 11],
     k1: [u8; 16],

@@ -1,41 +1,29 @@
 use borrow.Author.Needs.{needs}
-use Rattle.standard_path.proofs.HopMac.{hop-mac-from-schedule}
+use mathlib.Core.Path.{ap}
+use denote.Ref.{now}
+use Rattle.validator.specs.Check.{MacFunction, rightMac}
+use Rattle.routing.proofs.Steps.{schedule-law}
 use Rattle.journey_check.proofs.hops.mac_fits.Statement.{statement}
 use Rattle.journey_check.proofs.hops.mac_fits.Tie as tie
 
 returns : tie.Need-returns
 returns c =
-    let timestamp = c .before .before .before .before .before .before .before .timestamp in
-    let exp-time = c .before .before .before .before .before .before .exp-time in
-    let cons-ingress = c .before .before .before .before .before .cons-ingress in
-    let cons-egress = c .before .before .before .before .cons-egress in
-    let args = c .before .before .before .before .before .before .before .before .before .before .before .before .args in
-    let pre = c .before .before .before .before .before .before .before .before .before .before .before .before .pre in
-    let expand-key = c .before .before .before .before .before .before .before .before .before .expand-key in
-    let subkey-with = c .before .before .before .before .before .before .before .before .subkey-with in
-    let calculate-hop-mac-with = c .before .before .before .calculate-hop-mac-with in
-    let mac-number = c .before .before .mac-number in
+    let args = c .before .before .before .before .before .before .before .args in
+    let pre = c .before .before .before .before .before .before .before .pre in
+    let expand-key = c .before .before .before .before .expand-key in
+    let subkey-with = c .before .before .before .subkey-with in
+    let scheduled = schedule-law (args .key) pre (expand-key .ensures) (subkey-with .ensures) in
     rw (
-      ← timestamp .ensures,
-      ← exp-time .ensures,
-      ← cons-ingress .ensures,
-      ← cons-egress .ensures,
-      ← hop-mac-from-schedule _ _ _ _ _ (args .key) (pre) (expand-key .ensures) (subkey-with .ensures),
-      ← calculate-hop-mac-with .ensures,
-      ← mac-number .ensures,
+      ← ap (λ (mac : MacFunction). rightMac mac (now (args .hop)) (now (args .info)) (args .segment-id)) scheduled,
+      ← c .before .before .expected-mac .ensures,
       ← c .before .mac .ensures,
-      ← c .mac-number2 .ensures,
+      ← c .mac-number .ensures,
     )
 
 pub mac-fits-spec : {M : Type 1} → statement M
 mac-fits-spec =
     tie.close
     (tie.spec
-    (λ c κs. search needs)
-    (λ c κs. search needs)
-    (λ c κs. search needs)
-    (λ c κs. search needs)
-    (λ c κs. search needs)
     (λ c κs. search needs)
     (λ c κs. search needs)
     (λ c κs. search needs)
