@@ -4,7 +4,10 @@ use Rattle.octets.proofs.u32_at.Statement.{statement}
 use Rattle.octets.proofs.u32_at.Tie as tie
 
 returns-2 : tie.Need-returns-2
-returns-2 c = rw (List·getD-eq-default (c .before .before .before .before .before .before .before .before .args .bytes .now) 0 (c .before .before .before .before .before .before .if1 .left)) cc
+returns-2 c =
+    let args = c .before .before .before .before .before .before .before .before .args in
+    let if1 = c .before .before .before .before .before .before .if1 in
+    rw (List·getD-eq-default (args .bytes .now) 0 (if1 .left)) cc
 
 pub u32-at-spec : {M : Type 1} → statement M
 u32-at-spec =

@@ -7,7 +7,9 @@ use Rattle.aes_cmac.proofs.aes.encrypt_block.Statement.{statement}
 use Rattle.aes_cmac.proofs.aes.encrypt_block.Tie as tie
 
 returns : tie.Need-returns
-returns c = c .encrypt-with .ensures ∙ ap (λ (f : List ℕ → List ℕ). f (c .before .before .before .args .block)) (cipher-by-table {v = c .before .before .before .args .round-keys} (c .before .before .round-table .ensures) refl)
+returns c =
+    let args = c .before .before .before .args in
+    c .encrypt-with .ensures ∙ ap (λ (f : List ℕ → List ℕ). f (args .block)) (cipher-by-table {v = args .round-keys} (c .before .before .round-table .ensures) refl)
 
 pub encrypt-block-spec : {M : Type 1} → statement M
 encrypt-block-spec = tie.close (tie.spec (λ c κs. search needs) (λ c κs. search needs) returns)

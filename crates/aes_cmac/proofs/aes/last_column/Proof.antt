@@ -7,7 +7,10 @@ use Rattle.aes_cmac.proofs.aes.last_column.Tie as tie
 
 returns : tie.Need-returns
 unfolding lastColumnBy
-returns c = c .word .ensures ∙ (λ i. c .before .before .before .before .substituted .ensures i ∷ c .before .before .before .substituted2 .ensures i ∷ c .before .before .substituted3 .ensures i ∷ c .before .substituted4 .ensures i ∷ [])
+returns c =
+    let substituted = c .before .before .before .before .substituted in
+    let substituted2 = c .before .before .before .substituted2 in
+    c .word .ensures ∙ (λ i. substituted .ensures i ∷ substituted2 .ensures i ∷ c .before .before .substituted3 .ensures i ∷ c .before .substituted4 .ensures i ∷ [])
 
 pub last-column-spec : {M : Type 1} → statement M
 last-column-spec =

@@ -11,9 +11,13 @@ use Rattle.aes_cmac.proofs.aes.last_round.Tie as tie
 returns : tie.Need-returns
 unfolding lastRoundBy wordsBytes wordBytes
 returns c =
+    let last-column = c .before .before .before .before .before .before .last-column in
+    let last-column2 = c .before .before .before .before .before .last-column2 in
+    let last-column3 = c .before .before .before .before .last-column3 in
+    let last-column4 = c .before .before .before .last-column4 in
     c .unwords .ensures
     ∙ c .before .xor-words .ensures
-    ∙ ap₂ xorBlock (state-of _ _ _ _ (c .before .before .before .before .before .before .last-column .ensures) (c .before .before .before .before .before .last-column2 .ensures) (c .before .before .before .before .last-column3 .ensures) (c .before .before .before .last-column4 .ensures)) (ap joined (c .before .before .words .ensures))
+    ∙ ap₂ xorBlock (state-of _ _ _ _ (last-column .ensures) (last-column2 .ensures) (last-column3 .ensures) (last-column4 .ensures)) (ap joined (c .before .before .words .ensures))
     ∙ xor-key-words _ _
 
 pub last-round-spec : {M : Type 1} → statement M

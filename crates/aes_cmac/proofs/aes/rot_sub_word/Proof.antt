@@ -8,7 +8,10 @@ use Rattle.aes_cmac.proofs.aes.rot_sub_word.Tie as tie
 
 returns : tie.Need-returns
 unfolding subWord rotWord wordBytes
-returns c = c .word .ensures ∙ (λ i. c .before .before .before .before .sub-byte .ensures i ∷ c .before .before .before .sub-byte2 .ensures i ∷ c .before .before .sub-byte3 .ensures i ∷ c .before .sub-byte4 .ensures i ∷ [])
+returns c =
+    let sub-byte = c .before .before .before .before .sub-byte in
+    let sub-byte2 = c .before .before .before .sub-byte2 in
+    c .word .ensures ∙ (λ i. sub-byte .ensures i ∷ sub-byte2 .ensures i ∷ c .before .before .sub-byte3 .ensures i ∷ c .before .sub-byte4 .ensures i ∷ [])
 
 pub rot-sub-word-spec : {M : Type 1} → statement M
 rot-sub-word-spec =

@@ -11,8 +11,11 @@ use Rattle.aes_cmac.proofs.aes.round.Tie as tie
 returns : tie.Need-returns
 unfolding roundBy wordsBytes wordBytes
 returns c =
+    let column = c .before .before .before .before .before .column in
+    let column2 = c .before .before .before .before .column2 in
+    let column3 = c .before .before .before .column3 in
     c .xor-words .ensures
-    ∙ ap₂ xorBlock (state-of _ _ _ _ (c .before .before .before .before .before .column .ensures) (c .before .before .before .before .column2 .ensures) (c .before .before .before .column3 .ensures) (c .before .before .column4 .ensures)) (ap joined (c .before .words .ensures))
+    ∙ ap₂ xorBlock (state-of _ _ _ _ (column .ensures) (column2 .ensures) (column3 .ensures) (c .before .before .column4 .ensures)) (ap joined (c .before .words .ensures))
     ∙ xor-key-words _ _
 
 pub round-spec : {M : Type 1} → statement M

@@ -7,8 +7,11 @@ use Rattle.aes_cmac.proofs.cmac.aes_cmac.Tie as tie
 
 returns : tie.Need-returns
 returns c =
+    let args = c .before .before .before .before .before .before .before .args in
+    let round-table = c .before .before .before .before .before .round-table in
+    let expand-key = c .before .before .before .before .expand-key in
     c .aes-cmac-with .ensures
-    ∙ cmac-from-schedule (c .before .before .before .before .before .before .before .args .key) (now (c .before .before .before .before .before .before .before .args .message)) (c .before .before .before .before .before .round-table .ensures) (c .before .before .before .before .expand-key .ensures) (c .before .before .subkey-with .ensures)
+    ∙ cmac-from-schedule (args .key) (now (args .message)) (round-table .ensures) (expand-key .ensures) (c .before .before .subkey-with .ensures)
 
 pub aes-cmac-spec : {M : Type 1} → statement M
 aes-cmac-spec =

@@ -6,8 +6,11 @@ use Rattle.aes_cmac.proofs.cmac.aes_cmac_block.Tie as tie
 
 returns : tie.Need-returns
 returns c =
+    let args = c .before .before .before .before .before .before .args in
+    let round-table = c .before .before .before .before .before .round-table in
+    let expand-key = c .before .before .before .before .expand-key in
     c .aes-cmac-block-with .ensures
-    ∙ cmac-from-schedule (c .before .before .before .before .before .before .args .key) (c .before .before .before .before .before .before .args .block) (c .before .before .before .before .before .round-table .ensures) (c .before .before .before .before .expand-key .ensures) (c .before .before .subkey-with .ensures)
+    ∙ cmac-from-schedule (args .key) (args .block) (round-table .ensures) (expand-key .ensures) (c .before .before .subkey-with .ensures)
 
 pub aes-cmac-block-spec : {M : Type 1} → statement M
 aes-cmac-block-spec =

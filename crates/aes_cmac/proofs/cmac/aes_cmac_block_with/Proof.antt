@@ -10,7 +10,11 @@ use Rattle.aes_cmac.proofs.cmac.aes_cmac_block_with.Statement.{statemen
 use Rattle.aes_cmac.proofs.cmac.aes_cmac_block_with.Tie as tie
 
 returns : tie.Need-returns
-returns c = let size : length (c .before .before .before .before .args .block) ≡ 16 = c .before .before .before .before .good .1 .1 .1 .0 .1 .0 .1 in c .encrypt-words .ensures ∙ ap (cipherBy _ _) (c .before .xor-words .ensures ∙ ap₂ xorBlock (ap joined (c .before .before .before .words .ensures)) (ap joined (c .before .before .words2 .ensures)) ∙ xor-words _ _) ∙ one-block _ _ _ size
+returns c =
+    let args = c .before .before .before .before .args in
+    let good = c .before .before .before .before .good in
+    let words = c .before .before .before .words in
+    let size : length (args .block) ≡ 16 = good .1 .1 .1 .0 .1 .0 .1 in c .encrypt-words .ensures ∙ ap (cipherBy _ _) (c .before .xor-words .ensures ∙ ap₂ xorBlock (ap joined (words .ensures)) (ap joined (c .before .before .words2 .ensures)) ∙ xor-words _ _) ∙ one-block _ _ _ size
 
 pub aes-cmac-block-with-spec : {M : Type 1} → statement M
 aes-cmac-block-with-spec =

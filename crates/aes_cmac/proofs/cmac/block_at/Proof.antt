@@ -20,7 +20,9 @@ loop-holds c = filled-none 0 refl
 
 loop-again : tie.Need-loop-again Inv-loop μ-loop
 unfolding blockAt
-loop-again c = tabulated-more 16 (λ j. getD (now (c .before .before .before .args .message)) (c .before .before .before .args .at + j) 0) _ refl (c .before .loop-test .taken) (c .before .before .loop .inv)
+loop-again c =
+    let args = c .before .before .before .args in
+    tabulated-more 16 (λ j. getD (now (args .message)) (args .at + j) 0) _ refl (c .before .loop-test .taken) (c .before .before .loop .inv)
 
 returns : tie.Need-returns Inv-loop μ-loop
 unfolding blockAt

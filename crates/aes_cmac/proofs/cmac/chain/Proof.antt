@@ -35,7 +35,10 @@ unfolding chained
 loop-again c = (omega arith, rw add-one (cc))
 
 returns : tie.Need-returns Inv-loop μ-loop
-returns c = let e : c .before .loop .i ≡ c .before .before .before .args .count = omega arith in c .before .loop .inv .1 ∙ ap (chained _ _) e
+returns c =
+    let args = c .before .before .before .args in
+    let loop = c .before .loop in
+    let e : loop .i ≡ args .count = omega arith in loop .inv .1 ∙ ap (chained _ _) e
 
 pub chain-spec : {M : Type 1} → statement M
 chain-spec =

@@ -9,8 +9,10 @@ use Rattle.aes_cmac.proofs.cmac.last_block.Tie as tie
 
 returns : tie.Need-returns
 returns c =
-    c .xor-block .ensures ∙ ap (λ (s : List ℕ). xorBlock s (c .before .before .before .before .before .args .k1)) (c .before .block-at .ensures)
-    ∙ last-complete _ _ _ (c .before .before .before .blocks-before-last .ensures) (c .before .before .if1 .taken)
+    let args = c .before .before .before .before .before .args in
+    let blocks-before-last = c .before .before .before .blocks-before-last in
+    c .xor-block .ensures ∙ ap (λ (s : List ℕ). xorBlock s (args .k1)) (c .before .block-at .ensures)
+    ∙ last-complete _ _ _ (blocks-before-last .ensures) (c .before .before .if1 .taken)
 
 returns-2 : tie.Need-returns-2
 returns-2 c =

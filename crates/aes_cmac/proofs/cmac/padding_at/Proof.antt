@@ -19,7 +19,9 @@ loop-holds c = filled-none 0 refl
 
 loop-again : tie.Need-loop-again Inv-loop μ-loop
 unfolding paddingAt
-loop-again c = tabulated-more 16 (λ j. paddedByte (now (c .before .before .before .before .args .message)) (c .before .before .before .before .args .at + j)) _ (c .padded-byte .ensures) (c .before .loop-test .taken) (c .before .before .loop .inv)
+loop-again c =
+    let args = c .before .before .before .before .args in
+    tabulated-more 16 (λ j. paddedByte (now (args .message)) (args .at + j)) _ (c .padded-byte .ensures) (c .before .loop-test .taken) (c .before .before .loop .inv)
 
 returns : tie.Need-returns Inv-loop μ-loop
 unfolding paddingAt

@@ -22,17 +22,21 @@ loop-holds c = (filled-none 0 refl, omega arith)
 loop-again : tie.Need-loop-again Inv-loop μ-loop
 unfolding shiftLeft
 loop-again c =
-    let s = c .before .before .before .args .t1 in
-    let i = c .before .before .loop .i in
+    let args = c .before .before .before .args in
+    let loop = c .before .before .loop in
+    let s = args .t1 in
+    let i = loop .i in
     let q : c .shifted .result ≡ getD s i 0 * 2 % 256 + carryInto s i = rw (lt-ltb i 15 (c .before .loop-test .taken)) (c .shifted .ensures) in
-    (tabulated-more 16 (λ j. getD s j 0 * 2 % 256 + carryInto s j) _ q (omega arith) (c .before .before .loop .inv .0), omega arith)
+    (tabulated-more 16 (λ j. getD s j 0 * 2 % 256 + carryInto s j) _ q (omega arith) (loop .inv .0), omega arith)
 
 returns : tie.Need-returns Inv-loop μ-loop
 unfolding shiftLeft
 returns c =
-    let s = c .before .before .before .args .t1 in
-    let e : c .before .before .loop .i ≡ 15 = omega arith in
-    filled-all 0 (omega arith) (tabulated-more 16 (λ j. getD s j 0 * 2 % 256 + carryInto s j) {i = 15} _ (c .shifted2 .ensures) (omega arith) (rw e at (c .before .before .loop .inv .0)))
+    let args = c .before .before .before .args in
+    let loop = c .before .before .loop in
+    let s = args .t1 in
+    let e : loop .i ≡ 15 = omega arith in
+    filled-all 0 (omega arith) (tabulated-more 16 (λ j. getD s j 0 * 2 % 256 + carryInto s j) {i = 15} _ (c .shifted2 .ensures) (omega arith) (rw e at (loop .inv .0)))
 
 pub shift-left-spec : {M : Type 1} → statement M
 shift-left-spec =

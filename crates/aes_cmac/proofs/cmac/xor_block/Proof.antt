@@ -20,7 +20,9 @@ loop-holds c = filled-none 0 refl
 
 loop-again : tie.Need-loop-again Inv-loop μ-loop
 unfolding xorBlock
-loop-again c = tabulated-more 16 (λ j. bitXor (getD (c .before .before .args .t1) j 0) (getD (c .before .before .args .t2) j 0)) _ refl (c .loop-test .taken) (c .before .loop .inv)
+loop-again c =
+    let args = c .before .before .args in
+    tabulated-more 16 (λ j. bitXor (getD (args .t1) j 0) (getD (args .t2) j 0)) _ refl (c .loop-test .taken) (c .before .loop .inv)
 
 returns : tie.Need-returns Inv-loop μ-loop
 unfolding xorBlock

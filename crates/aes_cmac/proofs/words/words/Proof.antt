@@ -6,7 +6,9 @@ use Rattle.aes_cmac.proofs.words.words.Tie as tie
 
 returns : tie.Need-returns
 unfolding wordsBytes blockWords
-returns c = λ i. c .before .before .before .word .ensures i ∷ c .before .before .word2 .ensures i ∷ c .before .word3 .ensures i ∷ c .word4 .ensures i ∷ []
+returns c =
+    let word = c .before .before .before .word in
+    λ i. word .ensures i ∷ c .before .before .word2 .ensures i ∷ c .before .word3 .ensures i ∷ c .word4 .ensures i ∷ []
 
 pub words-spec : {M : Type 1} → statement M
 words-spec =

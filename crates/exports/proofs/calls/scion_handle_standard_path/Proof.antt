@@ -5,7 +5,9 @@ use Rattle.exports.proofs.calls.scion_handle_standard_path.Statement.{s
 use Rattle.exports.proofs.calls.scion_handle_standard_path.Tie as tie
 
 returns : tie.Need-returns
-returns c = (c .step-reply .ensures ∙ ap stepReply (c .before .before .before .handle-standard-path .ensures .0), c .before .before .before .handle-standard-path .ensures .1)
+returns c =
+    let handle-standard-path = c .before .before .before .handle-standard-path in
+    (c .step-reply .ensures ∙ ap stepReply (handle-standard-path .ensures .0), handle-standard-path .ensures .1)
 
 pub scion-handle-standard-path-spec : {M : Type 1} → statement M
 scion-handle-standard-path-spec =

@@ -5,7 +5,9 @@ use Rattle.exports.proofs.calls.scion_standard_path_egress.Statement.{s
 use Rattle.exports.proofs.calls.scion_standard_path_egress.Tie as tie
 
 returns : tie.Need-returns
-returns c = (c .step-reply .ensures ∙ ap stepReply (c .before .before .before .standard-path-egress .ensures .0), c .before .before .before .standard-path-egress .ensures .1)
+returns c =
+    let standard-path-egress = c .before .before .before .standard-path-egress in
+    (c .step-reply .ensures ∙ ap stepReply (standard-path-egress .ensures .0), standard-path-egress .ensures .1)
 
 pub scion-standard-path-egress-spec : {M : Type 1} → statement M
 scion-standard-path-egress-spec =

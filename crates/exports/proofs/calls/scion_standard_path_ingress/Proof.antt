@@ -5,7 +5,9 @@ use Rattle.exports.proofs.calls.scion_standard_path_ingress.Statement.{
 use Rattle.exports.proofs.calls.scion_standard_path_ingress.Tie as tie
 
 returns : tie.Need-returns
-returns c = (c .ingress-reply .ensures ∙ ap ingressReply (c .before .before .before .standard-path-ingress .ensures .0), c .before .before .before .standard-path-ingress .ensures .1)
+returns c =
+    let standard-path-ingress = c .before .before .before .standard-path-ingress in
+    (c .ingress-reply .ensures ∙ ap ingressReply (standard-path-ingress .ensures .0), standard-path-ingress .ensures .1)
 
 pub scion-standard-path-ingress-spec : {M : Type 1} → statement M
 scion-standard-path-ingress-spec =

@@ -6,15 +6,30 @@ use Rattle.exports.proofs.reply.refusal_reply.Tie as tie
 
 returns : tie.Need-returns
 unfolding refusalReply
-returns c = rw (sym (c .before .before .before .to-scmp-error .ensures) ∙ c .before .enum-told .given .1) (c .plain .ensures ∙ rw (c .before .before .before .before .before .before .refusal-number .ensures, c .before .before .before .before .before .refusal-value-count .ensures, c .before .before .before .before .refusal-values .ensures))
+returns c =
+    let refusal-number = c .before .before .before .before .before .before .refusal-number in
+    let refusal-value-count = c .before .before .before .before .before .refusal-value-count in
+    let refusal-values = c .before .before .before .before .refusal-values in
+    let to-scmp-error = c .before .before .before .to-scmp-error in
+    rw (sym (to-scmp-error .ensures) ∙ c .before .enum-told .given .1) (c .plain .ensures ∙ rw (refusal-number .ensures, refusal-value-count .ensures, refusal-values .ensures))
 
 returns-2 : tie.Need-returns-2
 unfolding refusalReply
-returns-2 c = rw (sym (c .before .before .before .to-scmp-error .ensures) ∙ c .before .code .given .1, c .before .before .before .before .before .before .refusal-number .ensures, c .before .before .before .before .before .refusal-value-count .ensures, c .before .before .before .before .refusal-values .ensures)
+returns-2 c =
+    let refusal-number = c .before .before .before .before .before .before .refusal-number in
+    let refusal-value-count = c .before .before .before .before .before .refusal-value-count in
+    let refusal-values = c .before .before .before .before .refusal-values in
+    let to-scmp-error = c .before .before .before .to-scmp-error in
+    rw (sym (to-scmp-error .ensures) ∙ c .before .code .given .1, refusal-number .ensures, refusal-value-count .ensures, refusal-values .ensures)
 
 returns-3 : tie.Need-returns-3
 unfolding refusalReply
-returns-3 c = rw (sym (c .before .before .before .to-scmp-error .ensures) ∙ c .before .interface-id .given .1, c .before .before .before .before .before .before .refusal-number .ensures, c .before .before .before .before .before .refusal-value-count .ensures, c .before .before .before .before .refusal-values .ensures)
+returns-3 c =
+    let refusal-number = c .before .before .before .before .before .before .refusal-number in
+    let refusal-value-count = c .before .before .before .before .before .refusal-value-count in
+    let refusal-values = c .before .before .before .before .refusal-values in
+    let to-scmp-error = c .before .before .before .to-scmp-error in
+    rw (sym (to-scmp-error .ensures) ∙ c .before .interface-id .given .1, refusal-number .ensures, refusal-value-count .ensures, refusal-values .ensures)
 
 pub refusal-reply-spec : {M : Type 1} → statement M
 refusal-reply-spec =

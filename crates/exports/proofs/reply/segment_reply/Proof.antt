@@ -6,7 +6,9 @@ use Rattle.exports.proofs.reply.segment_reply.Tie as tie
 
 returns : tie.Need-returns
 unfolding segmentReply
-returns c = rw (c .before .before .before .before .answer .given .1) (c .plain .ensures ∙ rw (c .before .before .flag .ensures, c .before .flag2 .ensures))
+returns c =
+    let answer = c .before .before .before .before .answer in
+    rw (answer .given .1) (c .plain .ensures ∙ rw (c .before .before .flag .ensures, c .before .flag2 .ensures))
 
 returns-2 : tie.Need-returns-2
 unfolding segmentReply

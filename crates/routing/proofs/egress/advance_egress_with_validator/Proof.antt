@@ -10,13 +10,22 @@ returns c = rw (← c .before .before .before .check-before .ensures, c .before 
 
 returns-2 : tie.Need-returns-2
 unfolding egress
-returns-2 c = rw (← c .before .before .before .before .before .before .before .check-before .ensures, c .before .before .before .before .before .enum-told .given .1, ← c .before .before .before .locate-egress .ensures, c .before .why2 .given .1) (refl, refl)
+returns-2 c =
+    let check-before = c .before .before .before .before .before .before .before .check-before in
+    let enum-told = c .before .before .before .before .before .enum-told in
+    let locate-egress = c .before .before .before .locate-egress in
+    rw (← check-before .ensures, enum-told .given .1, ← locate-egress .ensures, c .before .why2 .given .1) (refl, refl)
 
 returns-3 : tie.Need-returns-3
 unfolding egress
 returns-3 c =
-    rw (← c .before .before .before .before .before .before .before .before .before .before .before .before .check-before .ensures, c .before .before .before .before .before .before .before .before .before .before .enum-told .given .1, ← c .before .before .before .before .before .before .before .before .locate-egress .ensures, c .before .before .before .before .before .before .enum-told2 .given .1)
-    (c .before .before .before .before .decide-egress .ensures, c .before .before .move-egress .ensures)
+    let check-before = c .before .before .before .before .before .before .before .before .before .before .before .before .check-before in
+    let enum-told = c .before .before .before .before .before .before .before .before .before .before .enum-told in
+    let locate-egress = c .before .before .before .before .before .before .before .before .locate-egress in
+    let enum-told2 = c .before .before .before .before .before .before .enum-told2 in
+    let decide-egress = c .before .before .before .before .decide-egress in
+    rw (← check-before .ensures, enum-told .given .1, ← locate-egress .ensures, enum-told2 .given .1)
+    (decide-egress .ensures, c .before .before .move-egress .ensures)
 
 pub advance-egress-with-validator-spec : {M : Type 1} → statement M
 advance-egress-with-validator-spec =

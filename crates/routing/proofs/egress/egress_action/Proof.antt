@@ -7,17 +7,25 @@ use Rattle.routing.proofs.egress.egress_action.Tie as tie
 returns : tie.Need-returns
 unfolding egressAction
 returns c =
-    rw (← c .before .before .before .before .before .curr-hop-field .ensures, ← c .before .before .before .before .curr-info-field .ensures, ← c .before .before .before .egress-interface .ensures, ← c .before .before .egress-scmp-alert .ensures, c .before .if1 .taken, ne-eqb _ _ (c .if2 .taken))
+    let curr-hop-field = c .before .before .before .before .before .curr-hop-field in
+    let curr-info-field = c .before .before .before .before .curr-info-field in
+    let egress-interface = c .before .before .before .egress-interface in
+    rw (← curr-hop-field .ensures, ← curr-info-field .ensures, ← egress-interface .ensures, ← c .before .before .egress-scmp-alert .ensures, c .before .if1 .taken, ne-eqb _ _ (c .if2 .taken))
 
 returns-2 : tie.Need-returns-2
 unfolding egressAction
 returns-2 c =
-    rw (← c .before .before .before .before .before .curr-hop-field .ensures, ← c .before .before .before .before .curr-info-field .ensures, ← c .before .before .before .egress-interface .ensures, ← c .before .before .egress-scmp-alert .ensures, c .before .if1 .taken, eq-eqb _ _ (c .if2 .left))
+    let curr-hop-field = c .before .before .before .before .before .curr-hop-field in
+    let curr-info-field = c .before .before .before .before .curr-info-field in
+    let egress-interface = c .before .before .before .egress-interface in
+    rw (← curr-hop-field .ensures, ← curr-info-field .ensures, ← egress-interface .ensures, ← c .before .before .egress-scmp-alert .ensures, c .before .if1 .taken, eq-eqb _ _ (c .if2 .left))
 
 returns-3 : tie.Need-returns-3
 unfolding egressAction
 returns-3 c =
-    rw (← c .before .before .before .before .curr-hop-field .ensures, ← c .before .before .before .curr-info-field .ensures, ← c .before .before .egress-interface .ensures, ← c .before .egress-scmp-alert .ensures, c .if1 .left)
+    let curr-hop-field = c .before .before .before .before .curr-hop-field in
+    let curr-info-field = c .before .before .before .curr-info-field in
+    rw (← curr-hop-field .ensures, ← curr-info-field .ensures, ← c .before .before .egress-interface .ensures, ← c .before .egress-scmp-alert .ensures, c .if1 .left)
 
 pub egress-action-spec : {M : Type 1} → statement M
 egress-action-spec =

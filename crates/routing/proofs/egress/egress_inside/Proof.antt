@@ -7,7 +7,11 @@ returns : tie.Need-returns
 returns c = rw (← c .before .before .before .locate-egress .ensures, c .before .why .given .1) (refl, refl)
 
 returns-2 : tie.Need-returns-2
-returns-2 c = rw (← c .before .before .before .before .before .before .before .before .locate-egress .ensures, c .before .before .before .before .before .before .enum-told .given .1) (c .before .before .before .before .egress-action .ensures, c .before .before .move-egress .ensures)
+returns-2 c =
+    let locate-egress = c .before .before .before .before .before .before .before .before .locate-egress in
+    let enum-told = c .before .before .before .before .before .before .enum-told in
+    let egress-action = c .before .before .before .before .egress-action in
+    rw (← locate-egress .ensures, enum-told .given .1) (egress-action .ensures, c .before .before .move-egress .ensures)
 
 pub egress-inside-spec : {M : Type 1} → statement M
 egress-inside-spec =

@@ -6,7 +6,12 @@ use Rattle.routing.proofs.egress.move_egress.Tie as tie
 returns : tie.Need-returns
 unfolding egressMove
 returns c =
-    rw (c .before .before .before .before .before .before .clear-egress-alert .ensures, c .before .before .before .before .before .before .before .before .before .before .beta-step .ensures, c .before .before .before .before .before .before .before .before .before .before .before .before .cons-dir .ensures, c .before .before .before .before .before .before .before .before .before .before .before .before .before .curr-info-field .ensures, c .before .before .before .before .before .before .before .before .before .before .before .before .before .before .before .curr-hop-field-idx .ensures)
+    let curr-hop-field-idx = c .before .before .before .before .before .before .before .before .before .before .before .before .before .before .before .curr-hop-field-idx in
+    let curr-info-field = c .before .before .before .before .before .before .before .before .before .before .before .before .before .curr-info-field in
+    let cons-dir = c .before .before .before .before .before .before .before .before .before .before .before .before .cons-dir in
+    let beta-step = c .before .before .before .before .before .before .before .before .before .before .beta-step in
+    let clear-egress-alert = c .before .before .before .before .before .before .clear-egress-alert in
+    rw (clear-egress-alert .ensures, beta-step .ensures, cons-dir .ensures, curr-info-field .ensures, curr-hop-field-idx .ensures)
     at (c .before .before .set-curr-hop-field .ensures)
 
 pub move-egress-spec : {M : Type 1} → statement M

@@ -15,13 +15,23 @@ returns c = rw (← c .before .before .before .check-before .ensures, c .before 
 returns-2 : tie.Need-returns-2
 unfolding ingress
 returns-2 c =
-    rw (← c .before .before .before .before .before .before .before .check-before .ensures, c .before .before .before .before .before .enum-told .given .1, located-nowhere (firstNo (ingressPlace (now (c .before .before .before .before .before .before .before .before .before .before .before .before .args .path)))) (changes (now (c .before .before .before .before .before .before .before .before .before .before .before .before .args .path))) (isFinal (now (c .before .before .before .before .before .before .before .before .before .before .before .before .args .path))) (sym (c .before .before .before .locate-ingress .ensures) ∙ c .before .why2 .given .1)) (refl, refl)
+    let args = c .before .before .before .before .before .before .before .before .before .before .before .before .args in
+    let check-before = c .before .before .before .before .before .before .before .check-before in
+    let enum-told = c .before .before .before .before .before .enum-told in
+    let locate-ingress = c .before .before .before .locate-ingress in
+    rw (← check-before .ensures, enum-told .given .1, located-nowhere (firstNo (ingressPlace (now (args .path)))) (changes (now (args .path))) (isFinal (now (args .path))) (sym (locate-ingress .ensures) ∙ c .before .why2 .given .1)) (refl, refl)
 
 returns-3 : tie.Need-returns-3
 unfolding ingress
 returns-3 c =
-    let s = located-here (firstNo (ingressPlace (now (c .before .before .before .before .before .before .before .before .before .before .before .before .before .before .before .before .args .path)))) (changes (now (c .before .before .before .before .before .before .before .before .before .before .before .before .before .before .before .before .args .path))) (isFinal (now (c .before .before .before .before .before .before .before .before .before .before .before .before .before .before .before .before .args .path))) (sym (c .before .before .before .before .before .before .before .locate-ingress .ensures) ∙ c .before .before .before .before .before .change .given .1) in
-    rw (← c .before .before .before .before .before .before .before .before .before .before .before .check-before .ensures, c .before .before .before .before .before .before .before .before .before .enum-told .given .1, s .valid, s .changed, s .ended) (c .before .before .ingress-here .ensures .0, c .before .before .ingress-here .ensures .1)
+    let args = c .before .before .before .before .before .before .before .before .before .before .before .before .before .before .before .before .args in
+    let check-before = c .before .before .before .before .before .before .before .before .before .before .before .check-before in
+    let enum-told = c .before .before .before .before .before .before .before .before .before .enum-told in
+    let locate-ingress = c .before .before .before .before .before .before .before .locate-ingress in
+    let change = c .before .before .before .before .before .change in
+    let ingress-here = c .before .before .ingress-here in
+    let s = located-here (firstNo (ingressPlace (now (args .path)))) (changes (now (args .path))) (isFinal (now (args .path))) (sym (locate-ingress .ensures) ∙ change .given .1) in
+    rw (← check-before .ensures, enum-told .given .1, s .valid, s .changed, s .ended) (ingress-here .ensures .0, ingress-here .ensures .1)
 
 pub advance-ingress-with-validator-spec : {M : Type 1} → statement M
 advance-ingress-with-validator-spec =

@@ -6,7 +6,10 @@ use Rattle.routing.proofs.ingress.beta_step.Tie as tie
 returns : tie.Need-returns
 unfolding stepped
 returns c =
-    rw (c .before .before .before .before .before .before .before .before .if1 .taken) (rw (c .before .before .before .before .stepped-segment-id .ensures, c .before .before .before .before .before .before .curr-info-field-idx .ensures) at (c .before .before .set-segment-id .ensures))
+    let if1 = c .before .before .before .before .before .before .before .before .if1 in
+    let curr-info-field-idx = c .before .before .before .before .before .before .curr-info-field-idx in
+    let stepped-segment-id = c .before .before .before .before .stepped-segment-id in
+    rw (if1 .taken) (rw (stepped-segment-id .ensures, curr-info-field-idx .ensures) at (c .before .before .set-segment-id .ensures))
 
 returns-2 : tie.Need-returns-2
 unfolding stepped

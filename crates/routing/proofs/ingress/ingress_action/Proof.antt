@@ -13,7 +13,9 @@ returns-2 c = rw (← c .before .before .alerts-at-ingress .ensures, c .before .
 
 returns-3 : tie.Need-returns-3
 unfolding ingressAction
-returns-3 c = rw (← c .before .before .before .alerts-at-ingress .ensures, c .before .before .if1 .left, c .before .if2 .left, c .leaving-interface .ensures)
+returns-3 c =
+    let alerts-at-ingress = c .before .before .before .alerts-at-ingress in
+    rw (← alerts-at-ingress .ensures, c .before .before .if1 .left, c .before .if2 .left, c .leaving-interface .ensures)
 
 pub ingress-action-spec : {M : Type 1} → statement M
 ingress-action-spec =

@@ -6,7 +6,9 @@ returns : tie.Need-returns
 returns c = rw (← c .before .before .steps-at-ingress .ensures, c .before .if1 .taken) (c .stepped-segment-id .ensures)
 
 returns-2 : tie.Need-returns-2
-returns-2 c = rw (← c .before .before .before .steps-at-ingress .ensures, c .before .before .if1 .left, ← c .before .curr-info-field .ensures) (c .segment-id .ensures)
+returns-2 c =
+    let steps-at-ingress = c .before .before .before .steps-at-ingress in
+    rw (← steps-at-ingress .ensures, c .before .before .if1 .left, ← c .before .curr-info-field .ensures) (c .segment-id .ensures)
 
 pub ingress-segment-id-spec : {M : Type 1} → statement M
 ingress-segment-id-spec =

@@ -5,13 +5,20 @@ use Rattle.routing.proofs.ingress.move_ingress.Statement.{statement}
 use Rattle.routing.proofs.ingress.move_ingress.Tie as tie
 
 add-set-curr-info-field : tie.Need-add-set-curr-info-field
-add-set-curr-info-field c = omega (arith, c .before .before .before .before .before .before .before .before .before .before .before .before .before .before .slice-known .given 0)
+add-set-curr-info-field c =
+    let slice-known = c .before .before .before .before .before .before .before .before .before .before .before .before .before .before .slice-known in
+    omega (arith, slice-known .given 0)
 
 returns : tie.Need-returns
 unfolding ingressMove
 returns c =
-    rw (c .before .before .before .before .before .before .before .before .if1 .taken)
-    (rw (c .before .before .before .before .before .before .set-curr-hop-field .ensures, c .before .before .before .before .before .before .before .before .before .before .before .move-fields .ensures, c .before .before .before .before .before .before .before .before .before .before .before .before .before .before .before .curr-hop-field-idx .ensures, c .before .before .before .before .before .before .before .before .before .before .before .before .before .curr-info-field-idx .ensures) at (c .before .before .set-curr-info-field .ensures))
+    let curr-hop-field-idx = c .before .before .before .before .before .before .before .before .before .before .before .before .before .before .before .curr-hop-field-idx in
+    let curr-info-field-idx = c .before .before .before .before .before .before .before .before .before .before .before .before .before .curr-info-field-idx in
+    let move-fields = c .before .before .before .before .before .before .before .before .before .before .before .move-fields in
+    let if1 = c .before .before .before .before .before .before .before .before .if1 in
+    let set-curr-hop-field = c .before .before .before .before .before .before .set-curr-hop-field in
+    rw (if1 .taken)
+    (rw (set-curr-hop-field .ensures, move-fields .ensures, curr-hop-field-idx .ensures, curr-info-field-idx .ensures) at (c .before .before .set-curr-info-field .ensures))
 
 returns-2 : tie.Need-returns-2
 unfolding ingressMove

@@ -9,25 +9,49 @@ use Rattle.routing.proofs.ingress.validate_ingress.Statement.{statement
 use Rattle.routing.proofs.ingress.validate_ingress.Tie as tie
 
 returns : tie.Need-returns
-returns c = let asked = rw (c .before .before .before .before .before .curr-hop-field-idx .ensures, c .before .before .before .before .curr-hop-field .ensures, c .before .before .before .curr-info-field .ensures) at (c .before .before .validate-hop .ensures) in
+returns c =
+    let curr-hop-field-idx = c .before .before .before .before .before .curr-hop-field-idx in
+    let curr-hop-field = c .before .before .before .before .curr-hop-field in
+    let curr-info-field = c .before .before .before .curr-info-field in
+    let asked = rw (curr-hop-field-idx .ensures, curr-hop-field .ensures, curr-info-field .ensures) at (c .before .before .validate-hop .ensures) in
     c .enum-told2 .given .1 ∙ sym (stops _ _ _ (sym asked ∙ c .enum-told2 .given .1))
 
 validate-checked-requires : tie.Need-validate-checked-requires
 validate-checked-requires c κs = not-true _ (c .if1 .taken)
 
 returns-2 : tie.Need-returns-2
-returns-2 c = let asked = rw (c .before .before .before .before .before .before .before .before .curr-hop-field-idx .ensures, c .before .before .before .before .before .before .before .curr-hop-field .ensures, c .before .before .before .before .before .before .curr-info-field .ensures) at (c .before .before .before .before .before .validate-hop .ensures) in
-    c .validate-checked .ensures ∙ sym (goes-on _ _ (sym asked ∙ c .before .before .before .enum-told .given .1))
+returns-2 c =
+    let curr-hop-field-idx = c .before .before .before .before .before .before .before .before .curr-hop-field-idx in
+    let curr-hop-field = c .before .before .before .before .before .before .before .curr-hop-field in
+    let curr-info-field = c .before .before .before .before .before .before .curr-info-field in
+    let validate-hop = c .before .before .before .before .before .validate-hop in
+    let enum-told = c .before .before .before .enum-told in
+    let asked = rw (curr-hop-field-idx .ensures, curr-hop-field .ensures, curr-info-field .ensures) at (validate-hop .ensures) in
+    c .validate-checked .ensures ∙ sym (goes-on _ _ (sym asked ∙ enum-told .given .1))
 
 returns-3 : tie.Need-returns-3
-returns-3 c = let asked = rw (c .before .before .before .before .before .before .before .before .before .curr-hop-field-idx .ensures, c .before .before .before .before .before .before .before .before .curr-hop-field .ensures, c .before .before .before .before .before .before .before .curr-info-field .ensures) at (c .before .before .before .before .before .before .validate-hop .ensures) in
-    let args = c .before .before .before .before .before .before .before .before .before .before .before .before .before .args in
-    rw (c .before .if2 .taken) (c .validate-next .ensures ∙ sym (ingress-changes (keyMac (now (args .forwarding-key))) (args .at) (not-false _ (c .before .before .if1 .left)) (now (args .path)) (sym asked ∙ c .before .before .before .before .enum-told .given .1) (now (args .ids)) (now (args .states))))
+returns-3 c =
+    let args-fact = c .before .before .before .before .before .before .before .before .before .before .before .before .before .args in
+    let curr-hop-field-idx = c .before .before .before .before .before .before .before .before .before .curr-hop-field-idx in
+    let curr-hop-field = c .before .before .before .before .before .before .before .before .curr-hop-field in
+    let curr-info-field = c .before .before .before .before .before .before .before .curr-info-field in
+    let validate-hop = c .before .before .before .before .before .before .validate-hop in
+    let enum-told = c .before .before .before .before .enum-told in
+    let asked = rw (curr-hop-field-idx .ensures, curr-hop-field .ensures, curr-info-field .ensures) at (validate-hop .ensures) in
+    let args = args-fact in
+    rw (c .before .if2 .taken) (c .validate-next .ensures ∙ sym (ingress-changes (keyMac (now (args .forwarding-key))) (args .at) (not-false _ (c .before .before .if1 .left)) (now (args .path)) (sym asked ∙ enum-told .given .1) (now (args .ids)) (now (args .states))))
 
 returns-4 : tie.Need-returns-4
-returns-4 c = let asked = rw (c .before .before .before .before .before .before .before .before .curr-hop-field-idx .ensures, c .before .before .before .before .before .before .before .curr-hop-field .ensures, c .before .before .before .before .before .before .curr-info-field .ensures) at (c .before .before .before .before .before .validate-hop .ensures) in
-    let args = c .before .before .before .before .before .before .before .before .before .before .before .before .args in
-    rw (c .if2 .left) (sym (ingress-stays (keyMac (now (args .forwarding-key))) (args .at) (not-false _ (c .before .if1 .left)) (now (args .path)) (sym asked ∙ c .before .before .before .enum-told .given .1) (now (args .ids)) (now (args .states))))
+returns-4 c =
+    let args-fact = c .before .before .before .before .before .before .before .before .before .before .before .before .args in
+    let curr-hop-field-idx = c .before .before .before .before .before .before .before .before .curr-hop-field-idx in
+    let curr-hop-field = c .before .before .before .before .before .before .before .curr-hop-field in
+    let curr-info-field = c .before .before .before .before .before .before .curr-info-field in
+    let validate-hop = c .before .before .before .before .before .validate-hop in
+    let enum-told = c .before .before .before .enum-told in
+    let asked = rw (curr-hop-field-idx .ensures, curr-hop-field .ensures, curr-info-field .ensures) at (validate-hop .ensures) in
+    let args = args-fact in
+    rw (c .if2 .left) (sym (ingress-stays (keyMac (now (args .forwarding-key))) (args .at) (not-false _ (c .before .if1 .left)) (now (args .path)) (sym asked ∙ enum-told .given .1) (now (args .ids)) (now (args .states))))
 
 pub validate-ingress-spec : {M : Type 1} → statement M
 validate-ingress-spec =

@@ -10,44 +10,91 @@ use Rattle.routing.proofs.place.locate_ingress.Tie as tie
 
 returns : tie.Need-returns
 unfolding firstNo
-returns c = rw (lies-nowhere (now (c .before .before .before .before .before .before .args .path)) (currHf (now (c .before .before .before .before .before .before .args .path))) (rw (c .before .before .before .before .curr-hop-field-idx .ensures) at (sym (c .before .before .before .calculate-segment-index .ensures) ∙ c .before .enum-told .given .1))) (rw (c .before .before .before .before .curr-hop-field-idx .ensures) at (c .failed .ensures))
+returns c =
+    let args = c .before .before .before .before .before .before .args in
+    let curr-hop-field-idx = c .before .before .before .before .curr-hop-field-idx in
+    let calculate-segment-index = c .before .before .before .calculate-segment-index in
+    rw (lies-nowhere (now (args .path)) (currHf (now (args .path))) (rw (curr-hop-field-idx .ensures) at (sym (calculate-segment-index .ensures) ∙ c .before .enum-told .given .1))) (rw (curr-hop-field-idx .ensures) at (c .failed .ensures))
 
 returns-2 : tie.Need-returns-2
 unfolding firstNo
 returns-2 c =
-    let l = lies (now (c .before .before .before .before .before .before .before .before .args .path)) (currHf (now (c .before .before .before .before .before .before .before .before .args .path))) (rw (c .before .before .before .before .before .before .curr-hop-field-idx .ensures) at (sym (c .before .before .before .before .before .calculate-segment-index .ensures) ∙ c .before .before .before .index .given .1)) in
+    let args = c .before .before .before .before .before .before .before .before .args in
+    let curr-hop-field-idx = c .before .before .before .before .before .before .curr-hop-field-idx in
+    let calculate-segment-index = c .before .before .before .before .before .calculate-segment-index in
+    let index = c .before .before .before .index in
+    let l = lies (now (args .path)) (currHf (now (args .path))) (rw (curr-hop-field-idx .ensures) at (sym (calculate-segment-index .ensures) ∙ index .given .1)) in
     rw (l .inside, l .segment, l .first, l .last, c .before .if1 .taken) (c .failed2 .ensures)
 
 returns-3 : tie.Need-returns-3
 unfolding firstNo
 returns-3 c =
-    let l = lies (now (c .before .before .before .before .before .before .before .before .before .before .args .path)) (currHf (now (c .before .before .before .before .before .before .before .before .before .before .args .path))) (rw (c .before .before .before .before .before .before .before .before .curr-hop-field-idx .ensures) at (sym (c .before .before .before .before .before .before .before .calculate-segment-index .ensures) ∙ c .before .before .before .before .before .index .given .1)) in
-    rw (l .inside, l .segment, l .first, l .last, c .before .before .before .if1 .left, ← c .before .before .curr-info-field-idx .ensures, ne-eqb _ _ (c .before .if2 .taken)) (c .failed3 .ensures)
+    let args = c .before .before .before .before .before .before .before .before .before .before .args in
+    let curr-hop-field-idx = c .before .before .before .before .before .before .before .before .curr-hop-field-idx in
+    let calculate-segment-index = c .before .before .before .before .before .before .before .calculate-segment-index in
+    let index = c .before .before .before .before .before .index in
+    let if1 = c .before .before .before .if1 in
+    let l = lies (now (args .path)) (currHf (now (args .path))) (rw (curr-hop-field-idx .ensures) at (sym (calculate-segment-index .ensures) ∙ index .given .1)) in
+    rw (l .inside, l .segment, l .first, l .last, if1 .left, ← c .before .before .curr-info-field-idx .ensures, ne-eqb _ _ (c .before .if2 .taken)) (c .failed3 .ensures)
 
 returns-4 : tie.Need-returns-4
 unfolding firstNo
 returns-4 c =
-    let l = lies (now (c .before .before .before .before .before .before .before .before .before .before .before .before .args .path)) (currHf (now (c .before .before .before .before .before .before .before .before .before .before .before .before .args .path))) (rw (c .before .before .before .before .before .before .before .before .before .before .curr-hop-field-idx .ensures) at (sym (c .before .before .before .before .before .before .before .before .before .calculate-segment-index .ensures) ∙ c .before .before .before .before .before .before .before .index .given .1)) in
-    rw (l .inside, l .segment, l .first, l .last, c .before .before .before .before .before .if1 .left, ← c .before .before .before .before .curr-info-field-idx .ensures, eq-eqb _ _ (c .before .before .before .if2 .left), ← c .before .before .info-field-count .ensures, le-ltb _ _ (c .before .if3 .taken)) (c .failed4 .ensures)
+    let args = c .before .before .before .before .before .before .before .before .before .before .before .before .args in
+    let curr-hop-field-idx = c .before .before .before .before .before .before .before .before .before .before .curr-hop-field-idx in
+    let calculate-segment-index = c .before .before .before .before .before .before .before .before .before .calculate-segment-index in
+    let index = c .before .before .before .before .before .before .before .index in
+    let if1 = c .before .before .before .before .before .if1 in
+    let curr-info-field-idx = c .before .before .before .before .curr-info-field-idx in
+    let if2 = c .before .before .before .if2 in
+    let l = lies (now (args .path)) (currHf (now (args .path))) (rw (curr-hop-field-idx .ensures) at (sym (calculate-segment-index .ensures) ∙ index .given .1)) in
+    rw (l .inside, l .segment, l .first, l .last, if1 .left, ← curr-info-field-idx .ensures, eq-eqb _ _ (if2 .left), ← c .before .before .info-field-count .ensures, le-ltb _ _ (c .before .if3 .taken)) (c .failed4 .ensures)
 
 returns-5 : tie.Need-returns-5
 unfolding firstNo
 returns-5 c =
-    let l = lies (now (c .before .before .before .before .before .before .before .before .before .before .before .before .before .before .before .args .path)) (currHf (now (c .before .before .before .before .before .before .before .before .before .before .before .before .before .before .before .args .path))) (rw (c .before .before .before .before .before .before .before .before .before .before .before .before .before .curr-hop-field-idx .ensures) at (sym (c .before .before .before .before .before .before .before .before .before .before .before .before .calculate-segment-index .ensures) ∙ c .before .before .before .before .before .before .before .before .before .before .index .given .1)) in
-    rw (l .inside, l .segment, l .first, l .last, c .before .before .before .before .before .before .before .before .if1 .left, ← c .before .before .before .before .before .before .before .curr-info-field-idx .ensures, eq-eqb _ _ (c .before .before .before .before .before .before .if2 .left), ← c .before .before .before .before .before .info-field-count .ensures, lt-ltb _ _ (c .before .before .before .before .if3 .left), ← c .before .before .before .is-final .ensures, c .before .before .if4 .taken, le-ltb _ _ (c .before .if5 .taken))
+    let args = c .before .before .before .before .before .before .before .before .before .before .before .before .before .before .before .args in
+    let curr-hop-field-idx = c .before .before .before .before .before .before .before .before .before .before .before .before .before .curr-hop-field-idx in
+    let calculate-segment-index = c .before .before .before .before .before .before .before .before .before .before .before .before .calculate-segment-index in
+    let index = c .before .before .before .before .before .before .before .before .before .before .index in
+    let if1 = c .before .before .before .before .before .before .before .before .if1 in
+    let curr-info-field-idx = c .before .before .before .before .before .before .before .curr-info-field-idx in
+    let if2 = c .before .before .before .before .before .before .if2 in
+    let info-field-count = c .before .before .before .before .before .info-field-count in
+    let if3 = c .before .before .before .before .if3 in
+    let is-final = c .before .before .before .is-final in
+    let l = lies (now (args .path)) (currHf (now (args .path))) (rw (curr-hop-field-idx .ensures) at (sym (calculate-segment-index .ensures) ∙ index .given .1)) in
+    rw (l .inside, l .segment, l .first, l .last, if1 .left, ← curr-info-field-idx .ensures, eq-eqb _ _ (if2 .left), ← info-field-count .ensures, lt-ltb _ _ (if3 .left), ← is-final .ensures, c .before .before .if4 .taken, le-ltb _ _ (c .before .if5 .taken))
     (c .failed5 .ensures)
 
 returns-6 : tie.Need-returns-6
 unfolding firstNo
 returns-6 c =
-    let l = lies (now (c .before .before .before .before .before .before .before .before .before .before .before .before .before .before .args .path)) (currHf (now (c .before .before .before .before .before .before .before .before .before .before .before .before .before .before .args .path))) (rw (c .before .before .before .before .before .before .before .before .before .before .before .before .curr-hop-field-idx .ensures) at (sym (c .before .before .before .before .before .before .before .before .before .before .before .calculate-segment-index .ensures) ∙ c .before .before .before .before .before .before .before .before .before .index .given .1)) in
-    rw (l .inside, l .segment, l .first, l .last, c .before .before .before .before .before .before .before .if1 .left, ← c .before .before .before .before .before .before .curr-info-field-idx .ensures, eq-eqb _ _ (c .before .before .before .before .before .if2 .left), ← c .before .before .before .before .info-field-count .ensures, lt-ltb _ _ (c .before .before .before .if3 .left), ← c .before .before .is-final .ensures, c .before .if4 .taken, lt-ltb _ _ (c .if5 .left))
+    let args = c .before .before .before .before .before .before .before .before .before .before .before .before .before .before .args in
+    let curr-hop-field-idx = c .before .before .before .before .before .before .before .before .before .before .before .before .curr-hop-field-idx in
+    let calculate-segment-index = c .before .before .before .before .before .before .before .before .before .before .before .calculate-segment-index in
+    let index = c .before .before .before .before .before .before .before .before .before .index in
+    let if1 = c .before .before .before .before .before .before .before .if1 in
+    let curr-info-field-idx = c .before .before .before .before .before .before .curr-info-field-idx in
+    let if2 = c .before .before .before .before .before .if2 in
+    let info-field-count = c .before .before .before .before .info-field-count in
+    let if3 = c .before .before .before .if3 in
+    let l = lies (now (args .path)) (currHf (now (args .path))) (rw (curr-hop-field-idx .ensures) at (sym (calculate-segment-index .ensures) ∙ index .given .1)) in
+    rw (l .inside, l .segment, l .first, l .last, if1 .left, ← curr-info-field-idx .ensures, eq-eqb _ _ (if2 .left), ← info-field-count .ensures, lt-ltb _ _ (if3 .left), ← c .before .before .is-final .ensures, c .before .if4 .taken, lt-ltb _ _ (c .if5 .left))
 
 returns-7 : tie.Need-returns-7
 unfolding firstNo
 returns-7 c =
-    let l = lies (now (c .before .before .before .before .before .before .before .before .before .before .before .before .before .args .path)) (currHf (now (c .before .before .before .before .before .before .before .before .before .before .before .before .before .args .path))) (rw (c .before .before .before .before .before .before .before .before .before .before .before .curr-hop-field-idx .ensures) at (sym (c .before .before .before .before .before .before .before .before .before .before .calculate-segment-index .ensures) ∙ c .before .before .before .before .before .before .before .before .index .given .1)) in
-    rw (l .inside, l .segment, l .first, l .last, c .before .before .before .before .before .before .if1 .left, ← c .before .before .before .before .before .curr-info-field-idx .ensures, eq-eqb _ _ (c .before .before .before .before .if2 .left), ← c .before .before .before .info-field-count .ensures, lt-ltb _ _ (c .before .before .if3 .left), ← c .before .is-final .ensures, c .if4 .left)
+    let args = c .before .before .before .before .before .before .before .before .before .before .before .before .before .args in
+    let curr-hop-field-idx = c .before .before .before .before .before .before .before .before .before .before .before .curr-hop-field-idx in
+    let calculate-segment-index = c .before .before .before .before .before .before .before .before .before .before .calculate-segment-index in
+    let index = c .before .before .before .before .before .before .before .before .index in
+    let if1 = c .before .before .before .before .before .before .if1 in
+    let curr-info-field-idx = c .before .before .before .before .before .curr-info-field-idx in
+    let if2 = c .before .before .before .before .if2 in
+    let info-field-count = c .before .before .before .info-field-count in
+    let l = lies (now (args .path)) (currHf (now (args .path))) (rw (curr-hop-field-idx .ensures) at (sym (calculate-segment-index .ensures) ∙ index .given .1)) in
+    rw (l .inside, l .segment, l .first, l .last, if1 .left, ← curr-info-field-idx .ensures, eq-eqb _ _ (if2 .left), ← info-field-count .ensures, lt-ltb _ _ (c .before .before .if3 .left), ← c .before .is-final .ensures, c .if4 .left)
 
 pub locate-ingress-spec : {M : Type 1} → statement M
 locate-ingress-spec =

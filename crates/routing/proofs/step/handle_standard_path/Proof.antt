@@ -8,15 +8,28 @@ use Rattle.routing.proofs.step.handle_standard_path.Tie as tie
 
 returns : tie.Need-returns
 unfolding step
-returns c = (rw (← c .before .before .before .before .standard-path-ingress .ensures .0, ← c .before .before .before .before .standard-path-ingress .ensures .1) (c .finish .ensures ∙ leaves _ _ _ _ _ _ _ (c .before .match .keys2)), rw (← c .before .before .before .before .standard-path-ingress .ensures .0, ← c .before .before .before .before .standard-path-ingress .ensures .1) (stays _ _ _ _ _ _ _ (c .before .match .keys2)))
+returns c =
+    let standard-path-ingress = c .before .before .before .before .standard-path-ingress in
+    let match = c .before .match in
+    (rw (← standard-path-ingress .ensures .0, ← standard-path-ingress .ensures .1) (c .finish .ensures ∙ leaves _ _ _ _ _ _ _ (match .keys2)), rw (← standard-path-ingress .ensures .0, ← standard-path-ingress .ensures .1) (stays _ _ _ _ _ _ _ (match .keys2)))
 
 returns-2 : tie.Need-returns-2
 unfolding step stepFrom
-returns-2 c = rw (← c .before .before .before .before .before .before .before .before .before .before .standard-path-ingress .ensures .0, c .before .before .before .before .before .before .next-action .given .1, ← c .before .before .before .before .before .before .before .before .before .before .standard-path-ingress .ensures .1, ← c .before .before .before .validate-leaving .ensures, c .before .why .given .1) (refl, refl)
+returns-2 c =
+    let standard-path-ingress = c .before .before .before .before .before .before .before .before .before .before .standard-path-ingress in
+    let next-action = c .before .before .before .before .before .before .next-action in
+    let validate-leaving = c .before .before .before .validate-leaving in
+    rw (← standard-path-ingress .ensures .0, next-action .given .1, ← standard-path-ingress .ensures .1, ← validate-leaving .ensures, c .before .why .given .1) (refl, refl)
 
 returns-3 : tie.Need-returns-3
 unfolding step stepFrom
-returns-3 c = rw (← c .before .before .before .before .before .before .before .before .before .before .before .before .before .standard-path-ingress .ensures .0, c .before .before .before .before .before .before .before .before .before .next-action .given .1, egress-inside-placed _ _ _ _ _ _ _ _ (sym (c .before .before .before .before .before .before .before .before .before .before .before .before .before .standard-path-ingress .ensures .0) ∙ c .before .before .before .before .before .before .before .before .before .next-action .given .1), ← c .before .before .before .before .before .before .before .before .before .before .before .before .before .standard-path-ingress .ensures .1, ← c .before .before .before .before .before .before .validate-leaving .ensures, c .before .before .before .before .enum-told .given .1) (c .before .before .egress-inside .ensures .0, c .before .before .egress-inside .ensures .1)
+returns-3 c =
+    let standard-path-ingress = c .before .before .before .before .before .before .before .before .before .before .before .before .before .standard-path-ingress in
+    let next-action = c .before .before .before .before .before .before .before .before .before .next-action in
+    let validate-leaving = c .before .before .before .before .before .before .validate-leaving in
+    let enum-told = c .before .before .before .before .enum-told in
+    let egress-inside = c .before .before .egress-inside in
+    rw (← standard-path-ingress .ensures .0, next-action .given .1, egress-inside-placed _ _ _ _ _ _ _ _ (sym (standard-path-ingress .ensures .0) ∙ next-action .given .1), ← standard-path-ingress .ensures .1, ← validate-leaving .ensures, enum-told .given .1) (egress-inside .ensures .0, egress-inside .ensures .1)
 
 pub handle-standard-path-spec : {M : Type 1} → statement M
 handle-standard-path-spec =

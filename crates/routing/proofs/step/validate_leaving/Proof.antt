@@ -5,15 +5,25 @@ use Rattle.routing.proofs.step.validate_leaving.Tie as tie
 
 returns : tie.Need-returns
 unfolding firstNo
-returns c = rw (← c .before .before .before .before .lookup .ensures, c .before .before .enum-told .given .1, ← c .before .before .before .before .before .curr-hop-field-idx .ensures, ← c .before .curr-info-field .ensures, ← c .cons-dir .ensures)
+returns c =
+    let curr-hop-field-idx = c .before .before .before .before .before .curr-hop-field-idx in
+    let lookup = c .before .before .before .before .lookup in
+    rw (← lookup .ensures, c .before .before .enum-told .given .1, ← curr-hop-field-idx .ensures, ← c .before .curr-info-field .ensures, ← c .cons-dir .ensures)
 
 returns-2 : tie.Need-returns-2
 unfolding firstNo
-returns-2 c = rw (← c .before .before .before .before .before .lookup .ensures, c .before .before .before .state .given .1, ← c .before .is-up .ensures, c .if1 .taken)
+returns-2 c =
+    let lookup = c .before .before .before .before .before .lookup in
+    let state = c .before .before .before .state in
+    rw (← lookup .ensures, state .given .1, ← c .before .is-up .ensures, c .if1 .taken)
 
 returns-3 : tie.Need-returns-3
 unfolding firstNo
-returns-3 c = rw (← c .before .before .before .before .before .lookup .ensures, c .before .before .before .state .given .1, ← c .before .is-up .ensures, c .if1 .left, ← c .before .before .before .before .before .before .curr-hop-field-idx .ensures)
+returns-3 c =
+    let curr-hop-field-idx = c .before .before .before .before .before .before .curr-hop-field-idx in
+    let lookup = c .before .before .before .before .before .lookup in
+    let state = c .before .before .before .state in
+    rw (← lookup .ensures, state .given .1, ← c .before .is-up .ensures, c .if1 .left, ← curr-hop-field-idx .ensures)
 
 pub validate-leaving-spec : {M : Type 1} → statement M
 validate-leaving-spec =

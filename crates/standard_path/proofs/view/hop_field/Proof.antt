@@ -11,14 +11,18 @@ use Rattle.standard_path.proofs.view.hop_field.Tie as tie
 returns : tie.Need-returns
 unfolding hopField
 returns c =
-    let e = c .before .before .offset .ensures ∙ ap (λ (n : ℕ). hopOffset n (c .before .before .before .before .before .args .index)) (c .before .before .before .info-field-count .ensures) in
-    part-inside (now (c .before .before .before .before .before .args .path)) 12 e
+    let args = c .before .before .before .before .before .args in
+    let info-field-count = c .before .before .before .info-field-count in
+    let e = c .before .before .offset .ensures ∙ ap (λ (n : ℕ). hopOffset n (args .index)) (info-field-count .ensures) in
+    part-inside (now (args .path)) 12 e
 
 returns-2 : tie.Need-returns-2
 unfolding hopField
 returns-2 c =
-    let e = c .before .before .offset .ensures ∙ ap (λ (n : ℕ). hopOffset n (c .before .before .before .before .before .args .index)) (c .before .before .before .info-field-count .ensures) in
-    c .rest .ensures ∙ part-short (now (c .before .before .before .before .before .args .path)) 12 e (c .before .if1 .left)
+    let args = c .before .before .before .before .before .args in
+    let info-field-count = c .before .before .before .info-field-count in
+    let e = c .before .before .offset .ensures ∙ ap (λ (n : ℕ). hopOffset n (args .index)) (info-field-count .ensures) in
+    c .rest .ensures ∙ part-short (now (args .path)) 12 e (c .before .if1 .left)
 
 pub hop-field-spec : {M : Type 1} → statement M
 hop-field-spec =

@@ -5,10 +5,14 @@ use Rattle.standard_path.proofs.view.hop_field_count.Statement.{stateme
 use Rattle.standard_path.proofs.view.hop_field_count.Tie as tie
 
 add-result : tie.Need-add-result
-add-result c = omega (arith, c .before .before .shared-slice-known .given 1, c .before .before .shared-slice-known .given 2, c .before .before .shared-slice-known .given 3)
+add-result c =
+    let shared-slice-known = c .before .before .shared-slice-known in
+    omega (arith, shared-slice-known .given 1, shared-slice-known .given 2, shared-slice-known .given 3)
 
 add-result-2 : tie.Need-add-result-2
-add-result-2 c = omega (arith, c .before .before .before .shared-slice-known .given 1, c .before .before .before .shared-slice-known .given 2, c .before .before .before .shared-slice-known .given 3)
+add-result-2 c =
+    let shared-slice-known = c .before .before .before .shared-slice-known in
+    omega (arith, shared-slice-known .given 1, shared-slice-known .given 2, shared-slice-known .given 3)
 
 returns : tie.Need-returns
 unfolding hops

@@ -12,7 +12,9 @@ returns c = part-inside (now (c .before .before .before .before .args .path)) 8 
 
 returns-2 : tie.Need-returns-2
 unfolding infoField
-returns-2 c = c .rest .ensures ∙ part-short (now (c .before .before .before .before .args .path)) 8 (c .before .before .offset .ensures) (c .before .if1 .left)
+returns-2 c =
+    let args = c .before .before .before .before .args in
+    c .rest .ensures ∙ part-short (now (args .path)) 8 (c .before .before .offset .ensures) (c .before .if1 .left)
 
 pub info-field-spec : {M : Type 1} → statement M
 info-field-spec =

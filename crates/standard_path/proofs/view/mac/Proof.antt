@@ -6,7 +6,11 @@ use Rattle.standard_path.proofs.view.mac.Tie as tie
 
 returns : tie.Need-returns
 unfolding macField
-returns c = λ i. c .before .before .before .before .before .u8-at .ensures i ∷ c .before .before .before .before .u8-at2 .ensures i ∷ c .before .before .before .u8-at3 .ensures i ∷ c .before .before .u8-at4 .ensures i ∷ c .before .u8-at5 .ensures i ∷ c .u8-at6 .ensures i ∷ []
+returns c =
+    let u8-at = c .before .before .before .before .before .u8-at in
+    let u8-at2 = c .before .before .before .before .u8-at2 in
+    let u8-at3 = c .before .before .before .u8-at3 in
+    λ i. u8-at .ensures i ∷ u8-at2 .ensures i ∷ u8-at3 .ensures i ∷ c .before .before .u8-at4 .ensures i ∷ c .before .u8-at5 .ensures i ∷ c .u8-at6 .ensures i ∷ []
 
 pub mac-spec : {M : Type 1} → statement M
 mac-spec =

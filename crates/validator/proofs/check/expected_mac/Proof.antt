@@ -6,7 +6,10 @@ use Rattle.validator.proofs.check.expected_mac.Tie as tie
 
 returns : tie.Need-returns
 returns c =
-    rw (c .before .before .before .before .before .timestamp .ensures, c .before .before .before .before .exp-time .ensures, c .before .before .before .cons-ingress .ensures, c .before .before .cons-egress .ensures) at
+    let timestamp = c .before .before .before .before .before .timestamp in
+    let exp-time = c .before .before .before .before .exp-time in
+    let cons-ingress = c .before .before .before .cons-ingress in
+    rw (timestamp .ensures, exp-time .ensures, cons-ingress .ensures, c .before .before .cons-egress .ensures) at
     (c .mac-number .ensures ∙ ap macNumber (c .before .calculate-hop-mac-with .ensures))
 
 pub expected-mac-spec : {M : Type 1} → statement M

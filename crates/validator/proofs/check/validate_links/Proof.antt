@@ -9,17 +9,25 @@ returns c = rw (c .before .before .enum-told .given .1, c .before .ingress-inter
 
 returns-2 : tie.Need-returns-2
 unfolding firstNo
-returns-2 c = rw (c .before .before .before .before .before .listed-in .given .1, c .before .before .enum-told2 .given .1, c .before .egress-interface .ensures, c .cons-dir2 .ensures)
+returns-2 c =
+    let listed-in = c .before .before .before .before .before .listed-in in
+    rw (listed-in .given .1, c .before .before .enum-told2 .given .1, c .before .egress-interface .ensures, c .cons-dir2 .ensures)
 
 returns-3 : tie.Need-returns-3
 unfolding firstNo
 returns-3 c =
-    rw (c .before .before .before .before .before .before .before .before .listed-in .given .1, c .before .before .before .before .before .listed-out .given .1, ← c .before .before .before .link-type .ensures, ← c .before .before .link-type2 .ensures, ← c .before .is-allowed-pair .ensures, c .if1 .taken)
+    let listed-in = c .before .before .before .before .before .before .before .before .listed-in in
+    let listed-out = c .before .before .before .before .before .listed-out in
+    let link-type = c .before .before .before .link-type in
+    rw (listed-in .given .1, listed-out .given .1, ← link-type .ensures, ← c .before .before .link-type2 .ensures, ← c .before .is-allowed-pair .ensures, c .if1 .taken)
 
 returns-4 : tie.Need-returns-4
 unfolding firstNo
 returns-4 c =
-    rw (c .before .before .before .before .before .before .before .before .listed-in .given .1, c .before .before .before .before .before .listed-out .given .1, ← c .before .before .before .link-type .ensures, ← c .before .before .link-type2 .ensures, ← c .before .is-allowed-pair .ensures, c .if1 .left)
+    let listed-in = c .before .before .before .before .before .before .before .before .listed-in in
+    let listed-out = c .before .before .before .before .before .listed-out in
+    let link-type = c .before .before .before .link-type in
+    rw (listed-in .given .1, listed-out .given .1, ← link-type .ensures, ← c .before .before .link-type2 .ensures, ← c .before .is-allowed-pair .ensures, c .if1 .left)
 
 pub validate-links-spec : {M : Type 1} → statement M
 validate-links-spec =

@@ -8,11 +8,15 @@ use Rattle.validator.proofs.check.validate_mac.Tie as tie
 
 returns : tie.Need-returns
 unfolding firstNo
-returns c = rw (eq-eqb _ _ (sym (c .before .before .before .expected-mac .ensures) ∙ c .if1 .taken ∙ c .before .mac-number .ensures ∙ ap macNumber (c .before .before .mac .ensures)))
+returns c =
+    let expected-mac = c .before .before .before .expected-mac in
+    rw (eq-eqb _ _ (sym (expected-mac .ensures) ∙ c .if1 .taken ∙ c .before .mac-number .ensures ∙ ap macNumber (c .before .before .mac .ensures)))
 
 returns-2 : tie.Need-returns-2
 unfolding firstNo
-returns-2 c = rw (← c .before .before .before .expected-mac .ensures, ← c .before .mac-number .ensures ∙ ap macNumber (c .before .before .mac .ensures), ne-eqb _ _ (c .if1 .left))
+returns-2 c =
+    let expected-mac = c .before .before .before .expected-mac in
+    rw (← expected-mac .ensures, ← c .before .mac-number .ensures ∙ ap macNumber (c .before .before .mac .ensures), ne-eqb _ _ (c .if1 .left))
 
 pub validate-mac-spec : {M : Type 1} → statement M
 validate-mac-spec =

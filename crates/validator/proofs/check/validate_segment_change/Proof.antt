@@ -9,13 +9,22 @@ returns c = rw (← c .before .before .egress-scmp-alert .ensures, c .before .if
 
 returns-2 : tie.Need-returns-2
 unfolding firstNo
-returns-2 c = rw (← c .before .before .before .before .egress-scmp-alert .ensures, c .before .before .before .if1 .left, ← c .before .before .ingress-scmp-alert .ensures, c .before .if2 .taken, c .cons-dir2 .ensures)
+returns-2 c =
+    let egress-scmp-alert = c .before .before .before .before .egress-scmp-alert in
+    let if1 = c .before .before .before .if1 in
+    rw (← egress-scmp-alert .ensures, if1 .left, ← c .before .before .ingress-scmp-alert .ensures, c .before .if2 .taken, c .cons-dir2 .ensures)
 
 returns-3 : tie.Need-returns-3
 unfolding firstNo
 returns-3 c =
-    rw (← c .before .before .before .before .before .before .before .before .egress-scmp-alert .ensures, c .before .before .before .before .before .before .before .if1 .left, ← c .before .before .before .before .before .before .ingress-scmp-alert .ensures, c .before .before .before .before .before .if2 .left)
-    (rw (c .before .before .before .lookup .ensures, c .before .lookup2 .ensures, c .before .before .before .before .ingress-interface .ensures, c .before .before .egress-interface .ensures) at (c .validate-links .ensures))
+    let egress-scmp-alert = c .before .before .before .before .before .before .before .before .egress-scmp-alert in
+    let if1 = c .before .before .before .before .before .before .before .if1 in
+    let ingress-scmp-alert = c .before .before .before .before .before .before .ingress-scmp-alert in
+    let if2 = c .before .before .before .before .before .if2 in
+    let ingress-interface = c .before .before .before .before .ingress-interface in
+    let lookup = c .before .before .before .lookup in
+    rw (← egress-scmp-alert .ensures, if1 .left, ← ingress-scmp-alert .ensures, if2 .left)
+    (rw (lookup .ensures, c .before .lookup2 .ensures, ingress-interface .ensures, c .before .before .egress-interface .ensures) at (c .validate-links .ensures))
 
 pub validate-segment-change-spec : {M : Type 1} → statement M
 validate-segment-change-spec =
