@@ -1,8 +1,9 @@
 -- The least expiry, as the loops over a segment's hops and over the segments find it.
 -- Assumes nothing.
-use mathlib.Core.Path.{_≡_, refl, ap, ap₂, _∙_}
+use mathlib.Core.Path.{_≡_, refl, sym, ap, ap₂, subst, _∙_}
+use mathlib.Core.Bool.{Bool, true, false, cond}
 use mathlib.Core.List.{List, [], _∷_, map}
-use Prim.Native.Nat.{ℕ, zero, suc, _+_, _-_, _≤_, _<_, min}
+use Prim.Native.Nat.{ℕ, suc, _+_, _-_, _≤_, _<_, min}
 use native.Mathlib.Omega.{arith}
 use lib.ListN.{length}
 use denote.Ref.{RefT, now}
@@ -10,12 +11,11 @@ use Rattle.octets.specs.Bytes.{tabulate}
 use Rattle.standard_path.specs.Fields.{timestamp, expTime, expiry}
 use Rattle.standard_path.specs.Header.{infoField}
 use Rattle.segments.specs.Segments.{hopFields, hopOf}
-use Rattle.segments.specs.Segments.{PathSegment, segments, segmentCount, started, stepOf, advanced, least, hopExpiry, segmentExpiry, stepExpiry}
+use Rattle.segments.specs.Segments.{PathSegment, segments, isEnd, started, stepOf, advanced, least, hopExpiry, segmentExpiry, stepExpiry}
 use Rattle.segments.specs.declared.SegmentIterator.{SegmentIterator}
 use Rattle.segments.specs.declared.SegmentStep.{SegmentStep}
-use Rattle.segments.specs.declared.SegmentStep.the-variants.{Segment, End}
 use Rattle.segments.proofs.Range.{range-hop}
-use Rattle.segments.proofs.Walk.{Walk, ends, goes, end-stays, walk-segments, count-at-most}
+use Rattle.segments.proofs.Walk.{Walk, ends, goes, walk-segments}
 
 pub least-capped : (times : List ℕ) → least times ≤ 4294967295
 least-capped [] = omega arith
@@ -52,48 +52,71 @@ module _ (f : ℕ → ℕ) (first : ℕ) where
   pub times-none : (i end : ℕ) → end ≤ i → tabulate (end - i) (first + i) f ≡ []
   times-none i end h = let e : end - i ≡ 0 = omega arith in rw e
 
+no-true : _≡_ {A = Bool} true false → ⊥
+no-true e = subst (λ (b : Bool). cond b (Unit {0}) ⊥) e tt
+
 -- a hop's expiry, from the parts of its segment
 pub hop-time : (path : List ℕ) (s first count i : ℕ) {info hops hop : List ℕ} {time : ℕ} → i < count → info ≡ infoField path s
     → hops ≡ hopFields path first count → hop ≡ hopOf hops i → time ≡ expiry (timestamp info) (expTime hop) → time ≡ hopExpiry path s (first + i)
 unfolding hopExpiry
 hop-time path s first count i within info hops hop time =
-    time ∙ ap₂ (λ (l m : List ℕ). expiry (timestamp l) (expTime m)) info (hop ∙ ap (λ (l : List ℕ). hopOf l i) hops ∙ range-hop path first count i within)
+    time ∙ ap₂ (λ (l m : List ℕ). expiry (timestamp l) (expTime m)) info
+    (hop ∙ ap (λ (l : List ℕ). hopOf l i) hops ∙ range-hop path first count i within)
 
--- ---- the least expiry over the steps of an iterator
+-- ---- a walk by an iterator, with the least expiry of the segments passed
 
--- that of n of its steps
-abbrev stepsExpiry : ℕ → SegmentIterator → ℕ
-stepsExpiry zero at = 4294967295
-stepsExpiry (suc n) at = min (stepExpiry (now (at .path)) (stepOf at)) (stepsExpiry n (advanced at))
+pub record Ahead (lent : RefT (List ℕ)) : Type 0 where
+  pub at : SegmentIterator
+  pub soFar : ℕ
+  pub rest : List PathSegment
+  pub on : at .path ≡ lent
+  pub walk : Walk at rest
+  pub left : Left (map (segmentExpiry (now lent)) (segments (now lent))) soFar (map (segmentExpiry (now lent)) rest)
 
-ended : (n : ℕ) (at : SegmentIterator) → stepOf at ≡ End → stepsExpiry n at ≡ 4294967295
-ended zero at e = refl
-ended (suc n) at e =
-    let later : stepsExpiry n (advanced at) ≡ 4294967295 = ap (stepsExpiry n) (end-stays at e) ∙ ended n at e in
-    let here : stepExpiry (now (at .path)) (stepOf at) ≡ 4294967295 = ap (stepExpiry (now (at .path))) e in
-    omega (arith, later, here)
+module _ {lent : RefT (List ℕ)} where
+  -- the same iterator one step on
+  pub record Further (a : Ahead lent) (after : ℕ) : Type 0 where
+    pub rest : List PathSegment
+    pub walk : Walk (advanced (a .at)) rest
+    pub left : Left (map (segmentExpiry (now lent)) (segments (now lent))) after (map (segmentExpiry (now lent)) rest)
+    pub fewer : length rest < length (a .rest)
 
--- as many steps as there are segments, or more, give the least of all
-walk-expiry : (n : ℕ) (at : SegmentIterator) (rest : List PathSegment) → Walk at rest → length rest ≤ n
-    → stepsExpiry n at ≡ least (map (segmentExpiry (now (at .path))) rest)
-walk-expiry n at [] (ends e) h = ended n at e
-walk-expiry zero at (s ∷ rest) (goes e w) h = absurd (omega arith)
-walk-expiry (suc n) at (s ∷ rest) (goes e w) h =
-    let here : stepExpiry (now (at .path)) (stepOf at) ≡ segmentExpiry (now (at .path)) s = ap (stepExpiry (now (at .path))) e in
-    let later = walk-expiry n (advanced at) rest w (omega (arith, h)) in
-    omega (arith, here, later)
+  pub further : (a : Ahead lent) {step : SegmentStep} {after : ℕ} → step ≡ stepOf (a .at) → isEnd step ≡ false
+      → after ≡ min (a .soFar) (stepExpiry (now lent) step) → Further a after
+  further a {step} {after} e more f = go (a .rest) (a .walk) (a .left) refl
+    where
+      go : (rest : List PathSegment) → Walk (a .at) rest
+          → Left (map (segmentExpiry (now lent)) (segments (now lent))) (a .soFar) (map (segmentExpiry (now lent)) rest)
+          → a .rest ≡ rest → Further a after
+      go [] (ends q) l r = let z : _≡_ {A = Bool} true false = sym (ap isEnd (e ∙ q)) ∙ more in absurd (no-true z)
+      go (s ∷ rest) (goes q w) l r =
+          let time : stepExpiry (now lent) step ≡ segmentExpiry (now lent) s = ap (stepExpiry (now lent)) (e ∙ q) in
+          record {
+            rest = rest;
+            walk = w;
+            left = left-more (f ∙ ap (min (a .soFar)) time) l;
+            fewer = rw r (omega arith);
+          }
 
-step-capped : (path : List ℕ) (step : SegmentStep) → stepExpiry path step ≤ 4294967295
-unfolding segmentExpiry
-step-capped path (Segment info first count behind) = least-capped (tabulate count first (hopExpiry path info))
-step-capped path End = omega arith
+  abbrev pub on-from : (a : Ahead lent) {after : ℕ} → Further a after → Ahead lent
+  on-from a {after} f = record { at = advanced (a .at); soFar = after; rest = f .rest; on = a .on; walk = f .walk; left = f .left }
 
--- a path has three segments at most
-pub three-steps : (lent : RefT (List ℕ))
-    → min (stepExpiry (now lent) (stepOf (started lent)))
-    (min (stepExpiry (now lent) (stepOf (advanced (started lent)))) (stepExpiry (now lent) (stepOf (advanced (advanced (started lent))))))
-    ≡ least (map (segmentExpiry (now lent)) (segments (now lent)))
-unfolding segmentCount
-three-steps lent =
-    let all = walk-expiry 3 (started lent) (segments (now lent)) (walk-segments lent) (count-at-most (now lent)) in
-    omega (arith, all, step-capped (now lent) (stepOf (advanced (advanced (started lent)))))
+  pub ahead-none : (a : Ahead lent) {step : SegmentStep} → step ≡ stepOf (a .at) → isEnd step ≡ true
+      → a .soFar ≡ least (map (segmentExpiry (now lent)) (segments (now lent)))
+  ahead-none a {step} e end = go (a .rest) (a .walk) (a .left)
+    where
+      go : (rest : List PathSegment) → Walk (a .at) rest
+          → Left (map (segmentExpiry (now lent)) (segments (now lent))) (a .soFar) (map (segmentExpiry (now lent)) rest)
+          → a .soFar ≡ least (map (segmentExpiry (now lent)) (segments (now lent)))
+      go [] (ends q) l = left-none l
+      go (s ∷ rest) (goes q w) l = let z : _≡_ {A = Bool} true false = sym end ∙ ap isEnd (e ∙ q) in absurd (no-true z)
+
+abbrev pub ahead-all : (lent : RefT (List ℕ)) → Ahead lent
+ahead-all lent = record {
+  at = started lent;
+  soFar = 4294967295;
+  rest = segments (now lent);
+  on = refl;
+  walk = walk-segments lent;
+  left = left-all _;
+}

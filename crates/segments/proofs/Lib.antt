@@ -1,4 +1,5 @@
 pub mod Walk
 pub mod Range
+pub mod Whole
 pub mod Expiry
 pub mod Held

@@ -2,7 +2,7 @@
 -- path ends. The Rust: `segments`, `expiration` and `SegmentIterator` of view.rs.
 -- Assumes nothing.
 use Prim.Native.Nat.{ℕ, _+_, _*_, min}
-use mathlib.Core.Bool.{cond}
+use mathlib.Core.Bool.{Bool, true, false, cond}
 use mathlib.Core.List.{List, [], _∷_, map}
 use lib.Dec.{eqb, ltb, leb}
 use lib.ListN.{length, getD, take, drop}
@@ -67,6 +67,10 @@ nextSegment path place =
 abbrev pub placeAfter : SegmentPlace → SegmentStep → SegmentPlace
 placeAfter place (Segment info first count behind) = behind
 placeAfter place End = place
+
+abbrev pub isEnd : SegmentStep → Bool
+isEnd (Segment info first count behind) = false
+isEnd End = true
 
 -- ---- an iterator: the path, and the place in it
 

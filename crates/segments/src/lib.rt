@@ -12,9 +12,8 @@ ghost use mathlib.Core.Path.{_≡_};
 ghost use mathlib.Core.List.{map};
 ghost use Prim.Native.Nat.{min};
 ghost use lib.Dec.{eqb};
-ghost use lib.ListN.{take, drop};
 ghost use Rattle.standard_path.specs.Header.{hops, infoField};
-ghost use Rattle.segments.specs.Segments.{segments, segmentCount, segLen, hopFields, hopOf, nextSegment, placeAfter};
+ghost use Rattle.segments.specs.Segments.{segments, segmentCount, segLen, hopFields, hopOf, nextSegment, placeAfter, isEnd};
 ghost use Rattle.segments.specs.Segments.{started, stepOf, advanced};
 ghost use Rattle.segments.specs.Segments.{least, segmentExpiry, stepExpiry, pathExpiry, expiration, expirationNumber};
 
@@ -54,37 +53,30 @@ fn seg_len(path: &[u8], index: u8) -> u8
 
 // ---- a segment's parts: `view::info_field`, and its hop fields
 
-// As many bytes from a place on; fewer where the bytes end.
-fn part(bytes: &[u8], at: usize, count: usize) -> &[u8]
-    ensures { λ r. ⌜ now r ≡ take count (drop at (now (bytes .entry))) ⌝ }
-{
-    if bytes.len() < at {
-        return view::rest(bytes, at);
-    }
-    if bytes.len() - at < count {
-        return view::rest(bytes, at);
-    }
-    let end = at + count;
-    &bytes[at..end]
-}
-
 // The hop fields from an index on, as one part of the path.
 pub fn hop_fields(path: &[u8], first_hop: u8, hop_count: u8) -> &[u8]
     ensures { λ r. ⌜ now r ≡ hopFields (now (path .entry)) «first_hop» «hop_count» ⌝ }
 {
     let at = HopFieldLayout::offset(view::info_field_count(path), first_hop);
-    part(path, at, HopFieldLayout::SIZE_BYTES * (hop_count as usize))
+    let end = at + HopFieldLayout::SIZE_BYTES * (hop_count as usize);
+    if end <= path.len() {
+        &path[at..end]
+    } else {
+        view::rest(path, at)
+    }
 }
 
 // One of them.
 pub fn hop_of(hops: &[u8], index: u8) -> &[u8]
     ensures { λ r. ⌜ now r ≡ hopOf (now (hops .entry)) index ⌝ }
 {
-    part(
-        hops,
-        HopFieldLayout::SIZE_BYTES * (index as usize),
-        HopFieldLayout::SIZE_BYTES,
-    )
+    let at = HopFieldLayout::SIZE_BYTES * (index as usize);
+    let end = at + HopFieldLayout::SIZE_BYTES;
+    if end <= hops.len() {
+        &hops[at..end]
+    } else {
+        view::rest(hops, at)
+    }
 }
 
 // ---- a step along the segments
@@ -137,6 +129,15 @@ pub fn place_after(place: SegmentPlace, step: SegmentStep) -> SegmentPlace
     match step {
         SegmentStep::Segment { next, .. } => next,
         SegmentStep::End => place,
+    }
+}
+
+pub fn is_end(step: SegmentStep) -> bool
+    ensures { λ r. ⌜ r ≡ isEnd step ⌝ }
+{
+    match step {
+        SegmentStep::Segment { .. } => false,
+        SegmentStep::End => true,
     }
 }
 
@@ -226,9 +227,9 @@ fn segment_expiry(path: &[u8], info_idx: u8, first_hop: u8, hop_count: u8) -> u3
     expiry
 }
 
-// That of the segment a step gave; the cap at the end.
-fn step_expiry(path: &[u8], step: SegmentStep) -> u32
-    ensures { λ r. ⌜ r ≡ stepExpiry (now (path .entry)) step ⌝ }
+// The lesser of a time and of the expiry of the segment that a step gave.
+fn earlier(path: &[u8], step: SegmentStep, expiry: u32) -> u32
+    ensures { λ r. ⌜ r ≡ min expiry (stepExpiry (now (path .entry)) step) ⌝ }
 {
     match step {
         SegmentStep::Segment {
@@ -236,29 +237,24 @@ fn step_expiry(path: &[u8], step: SegmentStep) -> u32
             first_hop,
             hop_count,
             ..
-        } => segment_expiry(path, info_idx, first_hop, hop_count),
-        SegmentStep::End => 0xffff_ffff,
+        } => lesser(expiry, segment_expiry(path, info_idx, first_hop, hop_count)),
+        SegmentStep::End => expiry,
     }
 }
 
-fn earliest(path: &[u8], first: SegmentStep, second: SegmentStep, third: SegmentStep) -> u32
-    ensures { λ r. ⌜ r ≡ min (stepExpiry (now (path .entry)) first) (min (stepExpiry (now (path .entry)) second) (stepExpiry (now (path .entry)) third)) ⌝ }
-{
-    lesser(
-        step_expiry(path, first),
-        lesser(step_expiry(path, second), step_expiry(path, third)),
-    )
-}
-
-// The least expiry of the path's segments, three at most.
+// The least expiry of the path's segments.
 fn least_expiry(path: &[u8]) -> u32
     ensures { λ r. ⌜ r ≡ least (map (segmentExpiry (now (path .entry))) (segments (now (path .entry)))) ⌝ }
 {
     let mut segments = SegmentIterator::new(path);
-    let first = segments.next();
-    let second = segments.next();
-    let third = segments.next();
-    earliest(path, first, second, third)
+    let mut expiry = 0xffff_ffff;
+    loop {
+        let step = segments.next();
+        if is_end(step) {
+            return expiry;
+        }
+        expiry = earlier(path, step, expiry);
+    }
 }
 
 // The same, 0 if the path has no segments.
