@@ -56,6 +56,14 @@ pub record Stands (path now′ : List ℕ) (t m value : ℕ) : Type 0 where
   pub seg : segId (infoField now′ t) ≡ value
   pub later : (i : ℕ) → t < i → infoField now′ i ≡ infoField path i
 
+module _ {path mid : List ℕ} {t m value : ℕ} (s : Stands path mid t m value) where
+  -- what the step reads there
+  pub hop-here : hop mid ≡ hopOf path t m
+  hop-here = rw (s .hf, s .hop-same)
+
+  pub dir-here : consDir (info mid) ≡ consDir (infoField path t)
+  dir-here = rw (s .inf) (s .info-same t .dir)
+
 same-info-trans : {first second third : List ℕ} → SameInfo first second → SameInfo second third → SameInfo first third
 same-info-trans p q = record { dir = q .dir ∙ p .dir; start = q .start ∙ p .start }
 
@@ -63,25 +71,26 @@ same-info-trans p q = record { dir = q .dir ∙ p .dir; start = q .start ∙ p .
 
 module _ {path mid : List ℕ} {t m value : ℕ} (s : Stands path mid t m value) (room : headerSize path ≤ length path)
     (inside : t < infos path) where
-  among : currInf mid < infos mid
-  among = rw (s .inf, infos-kept (s .kept)) inside
+  -- its info field lies in the path
+  pub info-among : currInf mid < infos mid
+  info-among = rw (s .inf, infos-kept (s .kept)) inside
 
-  long : infoOffset (currInf mid) + 8 ≤ length mid
+  pub info-room : infoOffset (currInf mid) + 8 ≤ length mid
   unfolding headerSize
-  long = rw (s .inf, s .kept .size) (omega (arith, room, inside))
+  info-room = rw (s .inf, s .kept .size) (omega (arith, room, inside))
 
   -- a beta step, if it is taken
   steps : (taken : Bool) → Stands path (stepped mid taken) t m (cond taken (macBetaStep value (macField (hopOf path t m))) value)
   steps taken = record {
-    kept = kept-trans (s .kept) (stepped-kept mid among taken);
-    inf = stepped-inf mid among taken ∙ s .inf;
-    hf = stepped-hf mid among taken ∙ s .hf;
-    hop-same = λ j. stepped-hop mid among taken j ∙ s .hop-same j;
-    info-same = λ i. same-info-trans (s .info-same i) (stepped-info mid among taken i);
+    kept = kept-trans (s .kept) (stepped-kept mid info-among taken);
+    inf = stepped-inf mid info-among taken ∙ s .inf;
+    hf = stepped-hf mid info-among taken ∙ s .hf;
+    hop-same = λ j. stepped-hop mid info-among taken j ∙ s .hop-same j;
+    info-same = λ i. same-info-trans (s .info-same i) (stepped-info mid info-among taken i);
     seg =
-        let e = stepped-seg-id mid among taken long in
+        let e = stepped-seg-id mid info-among taken info-room in
         rw (s .inf, s .hf, s .hop-same, s .seg) at e;
-    later = λ i l. stepped-info-other mid among taken i (λ e. omega (arith, s .inf)) ∙ s .later i l;
+    later = λ i l. stepped-info-other mid info-among taken i (λ e. omega (arith, s .inf)) ∙ s .later i l;
   }
 
   -- CurrHF set
@@ -124,11 +133,10 @@ module _ {path mid : List ℕ} {t m : ℕ} (room : headerSize path ≤ length pa
       → Stands path (ingressFields mid interface) t m (checkedSegId path t m)
   enters s q interface first later =
       let c = consDir (infoField path t) in
-      let here : Quiet (hop mid) = rw (s .hf, s .hop-same) q in
-      let dir : consDir (info mid) ≡ c = rw (s .inf) (s .info-same t .dir) in
+      let here : Quiet (hop mid) = rw (hop-here s) q in
       let e : cond (not (eqb interface 0) && not c) (macBetaStep (arrivingSegId path t m) (macField (hopOf path t m))) (arrivingSegId path t m)
       ≡ checkedSegId path t m = value m interface c refl first later in
-      rw (quiet-fields mid (among s room inside) here interface, dir, ← e) (steps s room inside (not (eqb interface 0) && not c))
+      rw (quiet-fields mid (info-among s room inside) here interface, dir-here s, ← e) (steps s room inside (not (eqb interface 0) && not c))
     where
       value : (m interface : ℕ) (c : Bool) → consDir (infoField path t) ≡ c → (m ≡ 0 → interface ≡ 0) → (1 ≤ m → interface ≡ 0 → ⊥)
           → cond (not (eqb interface 0) && not c)
@@ -154,11 +162,10 @@ module _ {path mid : List ℕ} {t m : ℕ} (room : headerSize path ≤ length pa
       → Stands path (egressMove mid) t (m + 1) (arrivingSegId path t (m + 1))
   leaves s q few =
       let c = consDir (infoField path t) in
-      let here : Quiet (hop mid) = rw (s .hf, s .hop-same) q in
-      let dir : consDir (info mid) ≡ c = rw (s .inf) (s .info-same t .dir) in
+      let here : Quiet (hop mid) = rw (hop-here s) q in
       let e : cond c (macBetaStep (checkedSegId path t m) (macField (hopOf path t m))) (checkedSegId path t m)
       ≡ arrivingSegId path t (m + 1) = value c refl in
-      rw (quiet-egress-move mid (among s room inside) here, dir, s .hf, ← e)
+      rw (quiet-egress-move mid (info-among s room inside) here, dir-here s, s .hf, ← e)
       (hops-on (steps s room inside c) room inside (startOf path t + m + 1) (m + 1) (omega arith) few)
     where
       value : (c : Bool) → consDir (infoField path t) ≡ c

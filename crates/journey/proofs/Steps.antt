@@ -7,11 +7,10 @@ use Prim.Native.Nat.{ℕ, _+_, _≤_, _<_}
 use native.Mathlib.Omega.{arith}
 use borrow.Author.Tests.{le-leb}
 use lib.ListN.{length}
-use Rattle.standard_path.specs.Layout.{infoOffset}
 use Rattle.standard_path.specs.Mac.{macChainingBeta}
 use Rattle.standard_path.specs.Fields.{currInf, currHf, setCurrInf, setCurrHf, consDir, segId, timestamp, travelIngress, travelEgress}
 use Rattle.standard_path.specs.Header.{infos, hops, headerSize, infoField, hopField}
-use Rattle.standard_path.proofs.Kept.{Kept, infos-kept, hops-kept, header-size-kept}
+use Rattle.standard_path.proofs.Kept.{Kept, hops-kept, header-size-kept}
 use Rattle.interface_table.specs.Table.{tableSound, stateOf}
 use Rattle.validator.specs.Questions.{Questions, firstNo}
 use Rattle.validator.specs.Check.{hopQuestions, linkQuestions}
@@ -34,7 +33,7 @@ use Rattle.itinerary.specs.Itinerary.{Station}
 use Rattle.journey.specs.Check.{startOf, countOf, hopOf, chainedSegId, macsFrom}
 use Rattle.journey.specs.Journey.{stepAt}
 use Rattle.journey.proofs.Quiet.{Quiet, quiet-ingress, quiet-egress}
-use Rattle.journey.proofs.Stands.{Stands, checkedSegId, arrivingSegId, enters, segments-on}
+use Rattle.journey.proofs.Stands.{Stands, checkedSegId, arrivingSegId, hop-here, dir-here, info-among, info-room, enters, segments-on}
 use Rattle.journey.proofs.Hops.{Hop, middle, last, joint, placed, inside-middle, in-header, next-in-header, start-next, before-end}
 
 -- what 2, 3, 4 and 25 let through
@@ -105,6 +104,12 @@ insideThen left more = asks Refused (firstNo (insideQuestions left)) left more
 abbrev pub leavingThen : List ℕ → Station → ℕ → ℕ → List ℕ → Outcome StepAnswer → Outcome StepAnswer
 leavingThen path station t m left more = asks Refused (firstNo (leavingTests path station t m left)) left more
 
+-- a path that stands at a hop without alerts is forwarded
+goes-out : {path mid : List ℕ} {t m value : ℕ} → Stands path mid t m value → Quiet (hopOf path t m)
+    → egressAction mid ≡ Action (ForwardNextHop (wayOf path t m))
+unfolding egressAction
+goes-out {path} {t = t} s q = rw (hop-here s, dir-here s, quiet-egress q (consDir (infoField path t)))
+
 -- all that is checked at a segment change
 abbrev pub changeTests : List ℕ → Station → ℕ → ℕ → ℕ → Questions
 changeTests path station reading t m =
@@ -127,42 +132,25 @@ module _ {path mid : List ℕ} {t m : ℕ} (g : Given path) (s : Stands path mid
   before-valid : firstNo (before (station .ids) (station .states) mid) ≡ Valid
   before-valid = before-asked (station .ids) (station .states) g (s .kept) (r .sound)
 
-  hop-here : hop mid ≡ hopOf path t m
-  hop-here = rw (s .hf, s .hop-same)
-
-  dir-here : consDir (info mid) ≡ consDir (infoField path t)
-  dir-here = rw (s .inf) (s .info-same t .dir)
-
   start-here : timestamp (info mid) ≡ timestamp (infoField path t)
   start-here = rw (s .inf) (s .info-same t .start)
 
   seg-here : ingressSegId mid (station .arrival) ≡ checkedSegId path t m
-  unfolding headerSize
   seg-here =
-      let among : currInf mid < infos mid = rw (s .inf, infos-kept (s .kept)) inside in
-      let long : infoOffset (currInf mid) + 8 ≤ length mid = rw (s .inf, s .kept .size) (omega (arith, g .room, inside)) in
-      let e = ingress-fields-moved mid among (station .arrival) long .seg in
-      sym e ∙ ap (λ (i : ℕ). segId (infoField after i)) (s .inf) ∙ stands-after .seg
+      sym (ingress-fields-moved mid (info-among s (g .room) inside) (station .arrival) (info-room s (g .room) inside) .seg)
+      ∙ ap (λ (i : ℕ). segId (infoField after i)) (s .inf) ∙ stands-after .seg
 
   hop-asked : hopQuestions (keyMac (station .key)) (atIngress (station .arrival) reading false) (currHf mid) (hop mid) (info mid)
       (ingressSegId mid (station .arrival))
       ≡ hopTests path station reading t m
-  hop-asked = rw (seg-here, hop-here, dir-here, start-here, s .hf)
+  hop-asked = rw (seg-here, hop-here s, dir-here s, start-here, s .hf)
 
   no-alert : alertsAtIngress mid (station .arrival) ≡ false
-  no-alert = rw (hop-here, quiet-ingress quiet-here (consDir (info mid)))
+  no-alert = rw (hop-here s, quiet-ingress quiet-here (consDir (info mid)))
 
   -- ---- in the middle of a segment
 
   module _ (more : m + 1 < countOf path t) where
-    goes-out : egressAction after ≡ Action (ForwardNextHop (wayOf path t m))
-    unfolding egressAction
-    goes-out =
-        let a = stands-after in
-        let e : hop after ≡ hopOf path t m = ap (hopField after) (a .hf) ∙ a .hop-same _ in
-        let d : consDir (info after) ≡ consDir (infoField path t) = ap (λ (i : ℕ). consDir (infoField after i)) (a .inf) ∙ a .info-same t .dir in
-        rw (e, d, quiet-egress quiet-here (consDir (infoField path t)))
-
     pub middle-step : stepAt station reading mid
         ≡ asks Refused (firstNo (hopTests path station reading t m)) after (leavingThen path station t m after (forwarded path t m after))
     unfolding stepAt ingressMove
@@ -170,7 +158,7 @@ module _ {path mid : List ℕ} {t m : ℕ} (g : Given path) (s : Stands path mid
         let p = placed s h (middle more) in
         step-asks (station .ids) (station .states) (keyMac (station .key)) (station .arrival) reading false mid
         ∙ rw (before-valid, p .valid, p .changing, p .ending, no-alert)
-        (rw (hop-asked, inside-middle stands-after h more, goes-out, hop-here, dir-here))
+        (rw (hop-asked, inside-middle stands-after h more, goes-out stands-after quiet-here, hop-here s, dir-here s))
 
   -- ---- the last hop of the path
 
@@ -215,20 +203,11 @@ module _ {path mid : List ℕ} {t m : ℕ} (g : Given path) (s : Stands path mid
         (ap (λ (u : ℕ). u + 1) (sym (s .inf)))
         (segments-on stands-after (g .room) inside (currHf mid + 1) (t + 1) next-index few (omega arith) (behind .1))
 
-    goes-across : egressAction crossed ≡ Action (ForwardNextHop (wayOf path (t + 1) 0))
-    unfolding egressAction
-    goes-across =
-        let a = stands-crossed in
-        let e : hop crossed ≡ hopOf path (t + 1) 0 = ap (hopField crossed) (a .hf) ∙ a .hop-same _ in
-        let d : consDir (info crossed) ≡ consDir (infoField path (t + 1)) =
-        ap (λ (i : ℕ). consDir (infoField crossed i)) (a .inf) ∙ a .info-same (t + 1) .dir in
-        rw (e, d, quiet-egress quiet-next (consDir (infoField path (t + 1))))
-
     change-asked : firstNo
         (ingressQuestions (station .ids) (station .states) (keyMac (station .key)) (atIngress (station .arrival) reading false) mid true)
         ≡ firstNo (changeTests path station reading t m)
     change-asked =
-        rw (seg-here, hop-here, dir-here, start-here, next-hop, next-info, next-index, next-seg, s .hf)
+        rw (seg-here, hop-here s, dir-here s, start-here, next-hop, next-info, next-index, next-seg, s .hf)
         (rw (quiet-egress quiet-here (consDir (infoField path t)), quiet-ingress quiet-next (consDir (infoField path (t + 1))))
         (without-yes (hopTests path station reading t m) _ _ ∙ without-yes (hopTests path station reading t m) _ _))
 
@@ -240,4 +219,4 @@ module _ {path mid : List ℕ} {t m : ℕ} (g : Given path) (s : Stands path mid
         let p = placed s h (joint e f) in
         step-asks (station .ids) (station .states) (keyMac (station .key)) (station .arrival) reading false mid
         ∙ rw (before-valid, p .valid, p .changing, p .ending, no-alert)
-        (rw (change-asked, goes-across, next-hop, next-info))
+        (rw (change-asked, goes-out stands-crossed quiet-next, next-hop, next-info))

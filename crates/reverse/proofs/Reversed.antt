@@ -2,8 +2,8 @@
 -- Assumes nothing.
 use mathlib.Core.Path.{_≡_, refl, sym, ap, _∙_}
 use mathlib.Core.Bool.{Bool, true, false}
-use mathlib.Core.List.{List, [], _∷_}
-use Prim.Native.Nat.{ℕ, zero, suc, _+_, _-_, _*_, _≤_, _<_}
+use mathlib.Core.List.{List}
+use Prim.Native.Nat.{ℕ, _+_, _-_, _*_, _≤_, _<_}
 use native.Mathlib.Omega.{arith}
 use lib.Dec.{leb}
 use borrow.Author.Tests.{leb-true}
@@ -12,6 +12,7 @@ use lib.Seq.{take-add, drop-at, length-take-le, drop-set-lt, getD-take}
 use Rattle.standard_path.specs.Layout.{infoOffset, hopOffset}
 use Rattle.standard_path.specs.Fields.{currInf, currHf, seg0Len, seg1Len, seg2Len, setCurrInf, setCurrHf}
 use Rattle.standard_path.specs.Header.{infos, hops, headerSize, infoField, hopField, headerCheck}
+use Rattle.standard_path.proofs.IndexSet.{set-hf-kept, set-hf-byte, set-inf-byte, hf-after-hf, hf-after-inf, inf-after-inf}
 use Rattle.segments.specs.Segments.{segments, segmentCount}
 use Rattle.reverse.specs.Reverse.{swapLengths, toggleConsDirs, reverseFields, reverseParts, reversed}
 use Rattle.reverse.specs.Reverse.{bytesLeft, reverseAnswer, reverseBytes}
@@ -84,21 +85,19 @@ module _ (n m : ℕ) (path : List ℕ) (fits : hopOffset n m ≤ length path) wh
 
 -- ---- the current indices
 
-curr-hf-set : (l : List ℕ) (hop info : ℕ) → 0 < length l → hop < 64 → currHf (setCurrInf (setCurrHf l hop) info) ≡ hop
-unfolding setCurrInf setCurrHf
-curr-hf-set [] hop info p h = absurd (omega arith)
-curr-hf-set (b0 ∷ rest) hop info p h = omega arith
+module _ (l : List ℕ) (hop info : ℕ) where
+  other-byte : (k : ℕ) → 0 < k → getD (setCurrInf (setCurrHf l hop) info) k 0 ≡ getD l k 0
+  other-byte k h = set-inf-byte (setCurrHf l hop) info k (λ e. omega arith) ∙ set-hf-byte l hop k (λ e. omega arith)
 
-curr-inf-set : (l : List ℕ) (hop info : ℕ) → 0 < length l → info < 4 → currInf (setCurrInf (setCurrHf l hop) info) ≡ info
-unfolding setCurrInf setCurrHf
-curr-inf-set [] hop info p h = absurd (omega arith)
-curr-inf-set (b0 ∷ rest) hop info p h = omega arith
+  module _ (some : 0 < length l) where
+    some-still : 0 < length (setCurrHf l hop)
+    some-still = rw (set-hf-kept l hop .size) some
 
-other-byte : (l : List ℕ) (hop info k : ℕ) → 0 < k → getD (setCurrInf (setCurrHf l hop) info) k 0 ≡ getD l k 0
-unfolding setCurrInf setCurrHf
-other-byte [] hop info k h = refl
-other-byte (b0 ∷ rest) hop info zero h = absurd (omega arith)
-other-byte (b0 ∷ rest) hop info (suc k) h = refl
+    curr-hf-set : hop < 64 → currHf (setCurrInf (setCurrHf l hop) info) ≡ hop
+    curr-hf-set h = hf-after-inf (setCurrHf l hop) info some-still ∙ hf-after-hf l hop some h
+
+    curr-inf-set : info < 4 → currInf (setCurrInf (setCurrHf l hop) info) ≡ info
+    curr-inf-set = inf-after-inf (setCurrHf l hop) info some-still
 
 -- ---- the path
 

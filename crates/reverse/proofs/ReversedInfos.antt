@@ -3,8 +3,8 @@
 use mathlib.Core.Path.{_≡_, refl, sym, ap, _∙_}
 use mathlib.Core.Bool.{Bool, true, false, not}
 use mathlib.Core.List.{List, [], _∷_}
-use mathlib.Core.Logic.{⊎-elim}
-use Prim.Native.Nat.{ℕ, zero, suc, _+_, _-_, _/_, _%_, _≤_, _<_}
+use mathlib.Core.Logic.{inr, ⊎-elim}
+use Prim.Native.Nat.{ℕ, zero, suc, _/_, _%_, _≤_, _<_}
 use native.Mathlib.Nat.{add-zero, not-suc-le-zero, le-of-suc-le-suc, eq-or-lt-of-le}
 use native.Mathlib.Omega.{arith}
 use lib.Dec.{eqb}
@@ -13,6 +13,7 @@ use lib.Seq.{take-set-le, take-set-lt, drop-set-lt, drop-set-add, getD-take, get
 use borrow.Author.Tests.{eqb-true, eqb-false, eq-eqb, ne-eqb}
 use Rattle.standard_path.specs.Layout.{infoOffset}
 use Rattle.standard_path.specs.Fields.{consDir, peering, segId, timestamp}
+use Rattle.standard_path.proofs.Kept.{part-kept}
 use Rattle.reverse.specs.Reverse.{toggled, toggleConsDir, toggleConsDirs}
 
 -- an info field with C toggled
@@ -43,16 +44,7 @@ unfolding timestamp
 timestamp-toggled [] = refl
 timestamp-toggled (flags ∷ rest) = refl
 
--- ---- where a byte is set
-
--- a part before it
-part-before : (path : List ℕ) (k size at v : ℕ) → k + size ≤ at → take size (drop k (set path at v)) ≡ take size (drop k path)
-part-before path k size at v h =
-    let e : at ≡ k + (at - k) = omega arith in
-    let b : size ≤ at - k = omega arith in
-    ap (λ (i : ℕ). take size (drop k (set path i v))) e ∙ rw (drop-set-add k path (at - k) v) (take-set-le size (drop k path) (at - k) v b)
-
--- the info field that starts with it
+-- the info field that starts with the byte set
 toggle-at : (path : List ℕ) (at : ℕ) → take 8 (drop at (set path at (toggled (getD path at 0)))) ≡ toggleInfo (take 8 (drop at path))
 toggle-at path at =
     let new = toggled (getD path at 0) in
@@ -86,5 +78,5 @@ module _ (path : List ℕ) where
   toggled-info (suc n) i h =
       let last = ap (λ (l : List ℕ). toggleInfo (take 8 l)) (behind-toggle n (infoOffset n) (omega arith)) in
       ⊎-elim (λ (e : i ≡ n). rw e (toggle-at (toggleConsDirs n path) (infoOffset n) ∙ last))
-      (λ (b : i < n). part-before (toggleConsDirs n path) (infoOffset i) 8 (infoOffset n) _ (omega arith) ∙ toggled-info n i b)
+      (λ (b : i < n). part-kept (toggleConsDirs n path) (infoOffset n) _ (infoOffset i) 8 (inr (omega arith)) ∙ toggled-info n i b)
       (eq-or-lt-of-le (le-of-suc-le-suc h))
