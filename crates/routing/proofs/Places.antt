@@ -10,6 +10,7 @@ use Rattle.standard_path.specs.Fields.{seg0Len, seg1Len, seg2Len}
 use Rattle.standard_path.specs.Header.{hops, metaThere, fieldsThere, hopsFew, headerCheck, segmentOf, segmentStart, segmentEnd, segmentAmong, segmentIndex}
 use Rattle.standard_path.specs.declared.view.HeaderCheck.{HeaderCheck}
 use Rattle.standard_path.specs.declared.view.HeaderCheck.the-variants as header
+use Rattle.standard_path.specs.declared.view.SegmentIndex.{SegmentIndex}
 use Rattle.standard_path.specs.declared.view.SegmentIndex.the-variants.{At, OutOfBounds}
 use Rattle.validator.specs.Questions.{firstNo}
 use Rattle.validator.specs.declared.answer.StandardRoutingError.the-variants.{MetaTooShort, DataTooShort, TooManyHops}
@@ -44,17 +45,20 @@ pub record Lies (path : List ℕ) (h index : ℕ) (start end : Bool) : Type 0 wh
   pub first : eqb h (segmentStart (seg0Len path) (seg1Len path) index) ≡ start
   pub last : eqb (h + 1) (segmentEnd (seg0Len path) (seg1Len path) (seg2Len path) index) ≡ end
 
+-- what the segment index is, by whether the hop is inside
+abbrev found : List ℕ → ℕ → Bool → SegmentIndex
+found path h inside =
+    let index = segmentOf (seg0Len path) (seg1Len path) h in
+    cond inside
+    (At index (eqb h (segmentStart (seg0Len path) (seg1Len path) index))
+    (eqb (h + 1) (segmentEnd (seg0Len path) (seg1Len path) (seg2Len path) index)))
+    OutOfBounds
+
 pub lies : (path : List ℕ) (h : ℕ) {index : ℕ} {start end : Bool} → segmentIndex path h ≡ At index start end → Lies path h index start end
 unfolding segmentIndex segmentAmong hops
 lies path h {index} {start} {end} e = go (ltb h (hops path)) refl e
   where
-    go : (inside : Bool) → ltb h (hops path) ≡ inside
-        → cond inside
-        (At (segmentOf (seg0Len path) (seg1Len path) h)
-        (eqb h (segmentStart (seg0Len path) (seg1Len path) (segmentOf (seg0Len path) (seg1Len path) h)))
-        (eqb (h + 1) (segmentEnd (seg0Len path) (seg1Len path) (seg2Len path) (segmentOf (seg0Len path) (seg1Len path) h))))
-        OutOfBounds
-        ≡ At index start end → Lies path h index start end
+    go : (inside : Bool) → ltb h (hops path) ≡ inside → found path h inside ≡ At index start end → Lies path h index start end
     go true i q = record { inside = i; segment = cc; first = cc; last = cc }
     go false i q = let z : _≡_ {A = ℕ} 0 1 = cc in absurd (omega arith)
 
@@ -62,13 +66,7 @@ pub lies-nowhere : (path : List ℕ) (h : ℕ) → segmentIndex path h ≡ OutOf
 unfolding segmentIndex segmentAmong hops
 lies-nowhere path h e = go (ltb h (hops path)) refl e
   where
-    go : (inside : Bool) → ltb h (hops path) ≡ inside
-        → cond inside
-        (At (segmentOf (seg0Len path) (seg1Len path) h)
-        (eqb h (segmentStart (seg0Len path) (seg1Len path) (segmentOf (seg0Len path) (seg1Len path) h)))
-        (eqb (h + 1) (segmentEnd (seg0Len path) (seg1Len path) (seg2Len path) (segmentOf (seg0Len path) (seg1Len path) h))))
-        OutOfBounds
-        ≡ OutOfBounds → ltb h (hops path) ≡ false
+    go : (inside : Bool) → ltb h (hops path) ≡ inside → found path h inside ≡ OutOfBounds → ltb h (hops path) ≡ false
     go true i q = let z : _≡_ {A = ℕ} 0 1 = cc in absurd (omega arith)
     go false i q = i
 
