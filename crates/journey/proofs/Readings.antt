@@ -67,39 +67,30 @@ bytes-by-answer station reading path =
     let states = station .states in
     let mac = keyMac (station .key) in
     let interface = station .arrival in
+    let entered = ingressMove path interface (changes path) in
     rw (step-asks ids states mac interface reading false path)
-    (go (firstNo (before ids states path)) (firstNo (ingressPlace path)) (firstNo (checks ids states mac interface reading false path))
-    (alertsAtIngress path interface) (isFinal path) (firstNo (leavingChecks ids states mac interface reading false path))
-    (firstNo (insideQuestions (ingressMove path interface (changes path)))))
+    (go entered (firstNo (before ids states path)) (firstNo (ingressPlace path))
+    (firstNo (checks ids states mac interface reading false path)) (alertsAtIngress path interface) (isFinal path)
+    (firstNo (leavingChecks ids states mac interface reading false path)) (firstNo (insideQuestions entered)))
   where
-    go : (first place passed : Validation) (alert final : Bool) (leaving inside : Validation)
+    go : (entered : List ℕ) (first place passed : Validation) (alert final : Bool) (leaving inside : Validation)
         → let outcome : Outcome StepAnswer =
         asks Refused first path
         (asks Refused place path
-        (asks Refused passed (ingressMove path (station .arrival) (changes path))
-        (cond alert
-        (record {
-          answer = Action (Local (IngressSCMPHandleRequest (station .arrival)));
-          bytes = ingressMove path (station .arrival) (changes path);
-        })
-        (cond final (record { answer = Action (Local ForwardLocal); bytes = ingressMove path (station .arrival) (changes path) })
-        (asks Refused leaving (ingressMove path (station .arrival) (changes path))
-        (asks Refused inside (ingressMove path (station .arrival) (changes path))
-        (record {
-          answer = egressAction (ingressMove path (station .arrival) (changes path));
-          bytes = egressMove (ingressMove path (station .arrival) (changes path));
-        }))))))) in
-        outcome .bytes
-        ≡ bytesAfter first place path (ingressMove path (station .arrival) (changes path))
-        (egressMove (ingressMove path (station .arrival) (changes path))) (leftByEgress (outcome .answer))
-    go (Invalid why) place passed alert final leaving inside = refl
-    go Valid (Invalid why) passed alert final leaving inside = refl
-    go Valid Valid (Invalid why) alert final leaving inside = refl
-    go Valid Valid Valid true final leaving inside = refl
-    go Valid Valid Valid false true leaving inside = refl
-    go Valid Valid Valid false false (Invalid why) inside = refl
-    go Valid Valid Valid false false Valid (Invalid why) = refl
-    go Valid Valid Valid false false Valid Valid = rw (egress-action-leaves (ingressMove path (station .arrival) (changes path)))
+        (asks Refused passed entered
+        (cond alert (record { answer = Action (Local (IngressSCMPHandleRequest (station .arrival))); bytes = entered })
+        (cond final (record { answer = Action (Local ForwardLocal); bytes = entered })
+        (asks Refused leaving entered
+        (asks Refused inside entered (record { answer = egressAction entered; bytes = egressMove entered }))))))) in
+        outcome .bytes ≡ bytesAfter first place path entered (egressMove entered) (leftByEgress (outcome .answer))
+    go entered (Invalid why) place passed alert final leaving inside = refl
+    go entered Valid (Invalid why) passed alert final leaving inside = refl
+    go entered Valid Valid (Invalid why) alert final leaving inside = refl
+    go entered Valid Valid Valid true final leaving inside = refl
+    go entered Valid Valid Valid false true leaving inside = refl
+    go entered Valid Valid Valid false false (Invalid why) inside = refl
+    go entered Valid Valid Valid false false Valid (Invalid why) = refl
+    go entered Valid Valid Valid false false Valid Valid = rw (egress-action-leaves entered)
 
 -- ---- along a journey
 
