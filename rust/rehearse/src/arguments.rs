@@ -1,0 +1,130 @@
+//! The words of a call, taken apart by what its command takes.
+
+use crate::mistake::{mistake, Checked, Mistake};
+use std::ffi::{OsStr, OsString};
+
+/// What a command takes.
+pub struct Form {
+    pub command: &'static str,
+    /// The names of the words that are no options, at most so many.
+    pub places: &'static [&'static str],
+    /// The options with a value, each with what the value is.
+    pub values: &'static [(&'static str, &'static str)],
+    /// The options without one.
+    pub flags: &'static [&'static str],
+}
+
+/// A call's words, by their names.
+pub struct Arguments {
+    form: &'static Form,
+    places: Vec<OsString>,
+    values: Vec<(&'static str, OsString)>,
+    flags: Vec<&'static str>,
+}
+
+impl Arguments {
+    pub fn read(form: &'static Form, words: &[OsString]) -> Checked<Arguments> {
+        let mut read = Arguments {
+            form,
+            places: Vec::new(),
+            values: Vec::new(),
+            flags: Vec::new(),
+        };
+        let mut words = words.iter();
+        let mut options_end = false;
+        while let Some(word) = words.next() {
+            match word.to_str() {
+                Some("--") if !options_end => options_end = true,
+                Some(option) if !options_end && option.starts_with('-') && option != "-" => {
+                    read.option(option, &mut words)?;
+                }
+                _ => read.places.push(word.clone()),
+            }
+        }
+        match read.places.get(form.places.len()) {
+            None => Ok(read),
+            Some(word) => read.wrong(format!(
+                "`{}` is one word too many; a file name with spaces goes between quotes",
+                word.to_string_lossy()
+            )),
+        }
+    }
+
+    fn option<'a>(&mut self, option: &str, words: &mut impl Iterator<Item = &'a OsString>) -> Checked<()> {
+        let (name, given) = match option.split_once('=') {
+            Some((name, value)) => (name, Some(OsString::from(value))),
+            None => (option, None),
+        };
+        if let Some(&flag) = self.form.flags.iter().find(|&&flag| flag == name) {
+            if given.is_some() {
+                return self.wrong(format!("{flag} takes no value"));
+            }
+            self.flags.push(flag);
+            return Ok(());
+        }
+        let Some(&(name, what)) = self.form.values.iter().find(|&&(value, _)| value == name) else {
+            return self.wrong(format!("{name} is not an option of this command"));
+        };
+        let Some(value) = given.or_else(|| words.next().cloned()) else {
+            return self.wrong(format!("{name} needs {what} behind it"));
+        };
+        if self.value(name).is_some() {
+            return self.wrong(format!("{name} is given twice"));
+        }
+        self.values.push((name, value));
+        Ok(())
+    }
+
+    /// A mistake, with where to read on.
+    pub fn wrong<T>(&self, why: impl Into<String>) -> Checked<T> {
+        let command = self.form.command;
+        mistake(format!("{}: see `rehearse {command} --help`", why.into()))
+    }
+
+    pub fn flag(&self, name: &str) -> bool {
+        self.flags.contains(&name)
+    }
+
+    pub fn value(&self, name: &str) -> Option<&OsStr> {
+        let given = self.values.iter().find(|(value, _)| *value == name);
+        given.map(|(_, value)| value.as_os_str())
+    }
+
+    /// The text of an option that the command can't do without.
+    pub fn needed(&self, name: &str) -> Checked<&str> {
+        match self.value(name) {
+            Some(value) => value
+                .to_str()
+                .ok_or_else(|| Mistake(format!("{name}: `{}` is no text", value.to_string_lossy()))),
+            None => {
+                let what = self.form.values.iter().find(|&&(value, _)| value == name);
+                self.wrong(format!("{name} is missing ({})", what.map_or("", |(_, what)| what)))
+            }
+        }
+    }
+
+    pub fn place(&self, at: usize) -> Option<&OsStr> {
+        self.places.get(at).map(OsString::as_os_str)
+    }
+
+    /// A file that the command can't do without.
+    pub fn file(&self, at: usize, what: &str) -> Checked<&OsStr> {
+        match self.place(at) {
+            Some(name) => Ok(name),
+            None => self.wrong(format!(
+                "{} is missing ({what}, - for standard input)",
+                self.form.places[at]
+            )),
+        }
+    }
+
+    /// A whole number from 0 to 65535.
+    pub fn interface(&self, name: &str) -> Checked<u16> {
+        let text = self.needed(name)?;
+        text.parse().or_else(|_| {
+            mistake(format!(
+                "{name}: `{text}` is no interface number: write a whole number from 0 to 65535"
+            ))
+        })
+    }
+}

@@ -1,0 +1,136 @@
+//! `rehearse demo`: the example site of the repository, run and explained.
+
+use crate::arguments::{Arguments, Form};
+use crate::files::Files;
+use crate::json::Json;
+use crate::mistake::{mistake, Checked};
+use crate::report::Report;
+use std::ffi::{OsStr, OsString};
+use std::path::Path;
+
+pub const FORM: Form = Form {
+    command: "demo",
+    places: &[],
+    values: &[("--write", "a folder to write the example's files to")],
+    flags: &["--json"],
+};
+
+/// The files of examples/site.
+const FILES: [(&str, &str); 3] = [
+    ("plan.txt", include_str!("../../../../examples/site/plan.txt")),
+    ("good.txt", include_str!("../../../../examples/site/good.txt")),
+    ("late.txt", include_str!("../../../../examples/site/late.txt")),
+];
+
+/// What is said, and the call behind it.
+const STEPS: [(&str, &str); 8] = [
+    (
+        "The plan in plan.txt becomes bytes, as the journey check reads them.",
+        "plan plan.txt -o site.plan",
+    ),
+    (
+        "The path in good.txt becomes a header. Its MACs are worked out under the keys of the plan.",
+        "sign good.txt --plan site.plan -o good.path",
+    ),
+    (
+        "This is the header. Hop 1 and hop 2 belong to the core: there the path changes from one segment to the next.",
+        "show good.path",
+    ),
+    (
+        "Does it travel, whatever the stations' clocks read between five past six and eleven? It does.",
+        "journey good.path site.plan --earliest 2026-11-16T06:05:00Z --latest 2026-11-16T11:00:00Z",
+    ),
+    (
+        "The path in late.txt goes the same way, but the hop of the switch room lasts an hour only.",
+        "sign late.txt --plan site.plan -o late.path",
+    ),
+    (
+        "It does not pass: at eleven the switch room turns it down.",
+        "journey late.path site.plan --earliest 2026-11-16T06:05:00Z --latest 2026-11-16T11:00:00Z",
+    ),
+    (
+        "One station alone: hall A gets the good path from its own hosts (interface 0) and sends it on.",
+        "step good.path --table 1:parent:up --key 30a1f2c4b5d697e8091a2b3c4d5e6f70 --interface 0 --now 2026-11-16T06:05:00Z",
+    ),
+    (
+        "The same at one in the afternoon, an hour after the hop has ended.",
+        "step good.path --table 1:parent:up --key 30a1f2c4b5d697e8091a2b3c4d5e6f70 --interface 0 --now 2026-11-16T13:00:00Z",
+    ),
+];
+
+pub fn run(arguments: &Arguments, _files: &Files) -> Checked<Report> {
+    match arguments.value("--write") {
+        Some(folder) => write(folder),
+        None => Ok(show()),
+    }
+}
+
+fn show() -> Report {
+    let files = Files::in_memory();
+    let mut text = String::from(
+        "A cold store with two halls: hall A sends orders over the core of the site to the shuttle desk of hall B.\n\n\
+         This is its plan, plan.txt: four stations, each with the interface that a packet arrives by, its key and its\n\
+         interfaces.\n\n",
+    );
+    text += &indented(FILES[0].1);
+    text += "\nAnd this is a path over it, good.txt: five hops in two segments.\n\n";
+    text += &indented(FILES[1].1);
+    for (name, content) in FILES {
+        // The memory takes every file.
+        let _ = files.write(OsStr::new(name), content.as_bytes(), "");
+    }
+    let mut steps = Vec::new();
+    for (said, call) in STEPS {
+        let words: Vec<OsString> = call.split(' ').map(OsString::from).collect();
+        let answer = super::run(&words, &files);
+        text += &format!(
+            "\n{said}\n\n    $ rehearse {call}\n{}{}",
+            indented(&answer.out),
+            indented(&answer.err)
+        );
+        steps.push(Json::Object(vec![
+            ("call", Json::text(format!("rehearse {call}"))),
+            ("status", Json::number(answer.status)),
+            ("text", Json::text(answer.out)),
+        ]));
+    }
+    text += "\nTo try it yourself: `rehearse demo --write site` writes plan.txt, good.txt and late.txt into a folder, and\n\
+             the calls above run there. docs/GUIDE.md goes on from here.\n";
+    let mut report = Report::done("demo", "shown", text);
+    report.member("steps", Json::List(steps));
+    report
+}
+
+fn indented(text: &str) -> String {
+    let line = |line: &str| {
+        if line.is_empty() {
+            "\n".into()
+        } else {
+            format!("    {line}\n")
+        }
+    };
+    text.lines().map(line).collect()
+}
+
+fn write(folder: &OsStr) -> Checked<Report> {
+    let folder = Path::new(folder);
+    let failed = |error: std::io::Error| {
+        mistake(format!(
+            "{} can't be written ({error}): name a folder that you may write to",
+            folder.display()
+        ))
+    };
+    if let Err(error) = std::fs::create_dir_all(folder) {
+        return failed(error);
+    }
+    for (name, content) in FILES {
+        if let Err(error) = std::fs::write(folder.join(name), content) {
+            return failed(error);
+        }
+    }
+    let names = FILES.map(|(name, _)| name);
+    let text = format!("{} written to {}\n", names.join(", "), folder.display());
+    let mut report = Report::done("demo", "written", text);
+    report.member("files", Json::List(names.map(Json::text).into()));
+    Ok(report)
+}

@@ -1,0 +1,117 @@
+//! `rehearse journey`: does a path travel over the stations of a plan?
+
+use super::{batch, spelling, PATH};
+use crate::answers::{self, about, Answer};
+use crate::arguments::{Arguments, Form};
+use crate::dates;
+use crate::drive;
+use crate::files::{Files, Spelling};
+use crate::header::Header;
+use crate::itinerary;
+use crate::json::Json;
+use crate::mistake::Checked;
+use crate::plan;
+use crate::report::{counted, Report};
+use standard_path::{check_journey, ScionNetworkTime, Verdict};
+use std::ffi::OsStr;
+
+pub const FORM: Form = Form {
+    command: "journey",
+    places: &["PATH", "PLAN"],
+    values: &[
+        ("--earliest", "the earliest reading of a clock: seconds or a date"),
+        ("--latest", "the latest reading of a clock: seconds or a date"),
+        ("--batch", "a file with a path and a plan on each line"),
+    ],
+    flags: &["--json", "--raw", "--hex"],
+};
+
+/// The two readings, and how files are read.
+pub struct Between {
+    pub earliest: u32,
+    pub latest: u32,
+    pub spelling: Spelling,
+}
+
+pub fn run(arguments: &Arguments, files: &Files) -> Checked<Report> {
+    if arguments.value("--batch").is_some() {
+        return batch::run(arguments, files);
+    }
+    let path = arguments.file(0, PATH)?;
+    let plan = arguments.file(1, "the file with the plan, as bytes, as hex or in its text form")?;
+    let (_, report) = check(files, path, plan, &between(arguments)?)?;
+    Ok(report)
+}
+
+pub fn between(arguments: &Arguments) -> Checked<Between> {
+    Ok(Between {
+        earliest: dates::time(arguments.needed("--earliest")?, "--earliest")?,
+        latest: dates::time(arguments.needed("--latest")?, "--latest")?,
+        spelling: spelling(arguments)?,
+    })
+}
+
+/// Checks one path over one plan: the library's answer, and all that there is to say of it.
+pub fn check(files: &Files, path: &OsStr, plan: &OsStr, between: &Between) -> Checked<(Answer, Report)> {
+    let &Between {
+        earliest,
+        latest,
+        spelling,
+    } = between;
+    let path = files.read_path(path, spelling)?;
+    let plan = plan::read(files, plan, spelling)?;
+    let [from, to] = [earliest, latest].map(ScionNetworkTime::from_timestamp_secs);
+    let verdict = check_journey(&path, &plan, from, to);
+    let answer = answers::of_journey(verdict);
+
+    let mut report = Report::of("journey", &answer);
+    let (header, stations) = (Header(&path), itinerary::read(&plan).stations);
+    let (hops, infos) = (header.hops(), header.infos());
+    report.line(
+        "path",
+        format!("{}, {}", counted(hops, "hop"), counted(infos, "info field")),
+    );
+    report.line("plan", counted(stations.len(), "station"));
+    report.line(
+        "readings",
+        format!("from {} to {}", dates::both(earliest), dates::both(latest)),
+    );
+    for (name, value) in [("hops", hops), ("infos", infos), ("stations", stations.len())] {
+        report.member(name, Json::number(value as u64));
+    }
+    report.member("earliest", Json::number(earliest));
+    report.member("latest", Json::number(latest));
+    let stop = match verdict {
+        Ok(Verdict::NotPassed) => where_it_stops(&path, &stations, [earliest, latest], &mut report),
+        _ => Json::Null,
+    };
+    report.member("stops", stop);
+    Ok((answer, report))
+}
+
+/// Drives the path with every clock at the earliest reading, then at the latest, until a station holds it.
+fn where_it_stops(path: &[u8], stations: &[plan::Station], readings: [u32; 2], report: &mut Report) -> Json {
+    for reading in readings {
+        let Some(drive::Stop { station, answer }) = drive::stop(path, stations, reading) else {
+            report.line("arrives", format!("with every clock at {}", dates::both(reading)));
+            continue;
+        };
+        report.line(
+            "stops",
+            format!("at station {station}, with every clock at {}", dates::both(reading)),
+        );
+        report.line("", answer.headline());
+        report.lines(&about(answer.number));
+        return stop_json(station, reading, &answer);
+    }
+    Json::Null
+}
+
+fn stop_json(station: usize, reading: u32, answer: &Answer) -> Json {
+    let mut members = vec![
+        ("station", Json::number(station as u64)),
+        ("reading", Json::number(reading)),
+    ];
+    members.extend(answer.json("step").into_iter().filter(|(name, _)| *name != "command"));
+    Json::Object(members)
+}

@@ -1,0 +1,226 @@
+//! The commands: one module each. Each reads its arguments, calls the library and gives a report.
+
+mod batch;
+mod demo;
+mod expiration;
+mod journey;
+mod plan;
+mod reverse;
+mod show;
+mod sign;
+mod step;
+
+use crate::arguments::{Arguments, Form};
+use crate::files::{Files, Spelling};
+use crate::hex;
+use crate::json::Json;
+use crate::mistake::Checked;
+use crate::report::Report;
+use std::ffi::{OsStr, OsString};
+
+/// What a call writes and how it ends.
+pub struct Said {
+    pub out: String,
+    pub err: String,
+    pub status: u8,
+}
+
+struct Command {
+    form: &'static Form,
+    help: &'static str,
+    run: fn(&Arguments, &Files) -> Checked<Report>,
+}
+
+const COMMANDS: [Command; 10] = [
+    Command {
+        form: &demo::FORM,
+        help: include_str!("../../help/demo.txt"),
+        run: demo::run,
+    },
+    Command {
+        form: &show::FORM,
+        help: include_str!("../../help/show.txt"),
+        run: show::run,
+    },
+    Command {
+        form: &step::STEP,
+        help: include_str!("../../help/step.txt"),
+        run: step::whole,
+    },
+    Command {
+        form: &step::INGRESS,
+        help: include_str!("../../help/ingress.txt"),
+        run: step::ingress,
+    },
+    Command {
+        form: &step::EGRESS,
+        help: include_str!("../../help/egress.txt"),
+        run: step::egress,
+    },
+    Command {
+        form: &journey::FORM,
+        help: include_str!("../../help/journey.txt"),
+        run: journey::run,
+    },
+    Command {
+        form: &reverse::FORM,
+        help: include_str!("../../help/reverse.txt"),
+        run: reverse::run,
+    },
+    Command {
+        form: &expiration::FORM,
+        help: include_str!("../../help/expiration.txt"),
+        run: expiration::run,
+    },
+    Command {
+        form: &plan::FORM,
+        help: include_str!("../../help/plan.txt"),
+        run: plan::run,
+    },
+    Command {
+        form: &sign::FORM,
+        help: include_str!("../../help/sign.txt"),
+        run: sign::run,
+    },
+];
+
+const HELP: &str = include_str!("../../help/rehearse.txt");
+
+/// Runs one call.
+pub fn run(words: &[OsString], files: &Files) -> Said {
+    let first = words.first().and_then(|word| word.to_str());
+    let named = |name: Option<&str>| COMMANDS.iter().find(|command| Some(command.form.command) == name);
+    match first {
+        None => return wrong(None, "say what to do, as `rehearse demo`: see `rehearse --help`", false),
+        Some("--help" | "-h") => return said(HELP),
+        Some("--version") => return said(concat!("rehearse ", env!("CARGO_PKG_VERSION"), "\n")),
+        Some("help") => {
+            let about = words.get(1).and_then(|word| word.to_str());
+            return said(named(about).map_or(HELP, |command| command.help));
+        }
+        _ => {}
+    }
+    let Some(command) = named(first) else {
+        let word = words[0].to_string_lossy();
+        return wrong(
+            None,
+            &format!("`{word}` is not a command of rehearse: see `rehearse --help`"),
+            false,
+        );
+    };
+    let words = &words[1..];
+    let before_end = words.iter().take_while(|word| *word != "--");
+    if before_end.clone().any(|word| word == "--help" || word == "-h") {
+        return said(command.help);
+    }
+    let name = command.form.command;
+    let as_json = before_end.clone().any(|word| word == "--json");
+    match Arguments::read(command.form, words).and_then(|arguments| (command.run)(&arguments, files)) {
+        Ok(report) => finished(report, as_json),
+        Err(mistake) => wrong(Some(name), &mistake.0, as_json),
+    }
+}
+
+fn said(text: &str) -> Said {
+    Said {
+        out: text.into(),
+        err: String::new(),
+        status: 0,
+    }
+}
+
+fn finished(report: Report, as_json: bool) -> Said {
+    let Report {
+        text,
+        mut json,
+        notes,
+        status,
+    } = report;
+    if as_json {
+        json.push(("notes", Json::List(notes.into_iter().map(Json::Text).collect())));
+        return Said {
+            out: format!("{}\n", Json::Object(json)),
+            err: String::new(),
+            status,
+        };
+    }
+    let err = notes.iter().map(|note| format!("rehearse: {note}\n")).collect();
+    Said { out: text, err, status }
+}
+
+/// A mistake in the call: a sentence on standard error, with `--json` an object as well.
+fn wrong(command: Option<&'static str>, sentence: &str, as_json: bool) -> Said {
+    let object = || {
+        Json::Object(vec![
+            ("command", command.map_or(Json::Null, Json::text)),
+            ("answer", Json::text("mistake")),
+            ("number", Json::Null),
+            ("sentence", Json::text(sentence)),
+        ])
+    };
+    Said {
+        out: if as_json {
+            format!("{}\n", object())
+        } else {
+            String::new()
+        },
+        err: format!("rehearse: {sentence}\n"),
+        status: 2,
+    }
+}
+
+// ---- what several commands do
+
+fn spelling(arguments: &Arguments) -> Checked<Spelling> {
+    match (arguments.flag("--raw"), arguments.flag("--hex")) {
+        (true, true) => arguments.wrong("--raw and --hex do not go together"),
+        (true, false) => Ok(Spelling::Raw),
+        (false, true) => Ok(Spelling::Hex),
+        (false, false) => Ok(Spelling::ByContent),
+    }
+}
+
+const PATH: &str = "the file with the path header";
+
+fn read_path(arguments: &Arguments, files: &Files) -> Checked<Vec<u8>> {
+    files.read_path(arguments.file(0, PATH)?, spelling(arguments)?)
+}
+
+/// Writes the path that a call left, where the call asks for it.
+fn write_path(arguments: &Arguments, files: &Files, path: &[u8], report: &mut Report) -> Checked<()> {
+    if let Some(name) = arguments.value("--write") {
+        if name == "-" {
+            return arguments.wrong("--write takes a file; the header that is left is printed anyway");
+        }
+        files.write(name, path, &path_lines(path))?;
+        report.line("written", name.to_string_lossy());
+    }
+    Ok(())
+}
+
+/// A path as hex text, a line for each of its fields.
+fn path_lines(path: &[u8]) -> String {
+    hex::lines(path, crate::header::Header(path).sizes())
+}
+
+/// Where a command that makes a file writes it: a file, `-` for hex text on standard output, or nowhere with `--json`.
+fn write_made(arguments: &Arguments, files: &Files, bytes: &[u8], hex: &str, report: &mut Report) -> Checked<()> {
+    let json = arguments.flag("--json");
+    match arguments.value("-o") {
+        None if json => {}
+        None => {
+            arguments.needed("-o")?;
+        }
+        Some(name) if name == OsStr::new("-") => {
+            if json {
+                return arguments.wrong("--json has the bytes in its object: leave out `-o -`");
+            }
+            report.text = hex.into();
+        }
+        Some(name) => {
+            files.write(name, bytes, hex)?;
+            report.line("written", name.to_string_lossy());
+        }
+    }
+    Ok(())
+}

@@ -1,0 +1,38 @@
+//! Where a path that did not pass stops: the library's whole step at each station in turn, with every clock at one
+//! reading. The journey check has the verdict; this only finds the place to look at.
+
+use crate::answers::{self, Answer};
+use crate::plan::Station;
+use standard_path::{handle_standard_path, AsRoutingAction, Interfaces, LocalAsRoutingAction, ScionNetworkTime};
+
+/// The station, counted from 0, and its answer.
+pub struct Stop {
+    pub station: usize,
+    pub answer: Answer,
+}
+
+/// The first station that does not send the path on, or at the last that does not deliver it.
+pub fn stop(path: &[u8], stations: &[Station], reading: u32) -> Option<Stop> {
+    let mut path = path.to_vec();
+    let now = ScionNetworkTime::from_timestamp_secs(reading);
+    for (station, at) in stations.iter().enumerate() {
+        let (ids, states): (Vec<u16>, Vec<u8>) = at.interfaces.iter().copied().unzip();
+        let table = Interfaces {
+            ids: &ids,
+            states: &states,
+        };
+        let answer = handle_standard_path(&mut path, at.arrival, now, &at.key, table, false);
+        let is_last = station + 1 == stations.len();
+        match answer {
+            Ok(AsRoutingAction::ForwardNextHop { .. }) if !is_last => {}
+            Ok(AsRoutingAction::Local(LocalAsRoutingAction::ForwardLocal)) if is_last => {}
+            answer => {
+                return Some(Stop {
+                    station,
+                    answer: answers::of_step(answer),
+                })
+            }
+        }
+    }
+    None
+}

@@ -1,0 +1,84 @@
+//! Bytes as hex text, and back.
+
+use crate::mistake::{mistake, Checked};
+
+pub fn to_hex(bytes: &[u8]) -> String {
+    bytes.iter().map(|byte| format!("{byte:02x}")).collect()
+}
+
+/// Whether these bytes could be hex text: digits and white space only.
+pub fn is_hex(text: &[u8]) -> bool {
+    text.iter()
+        .all(|byte| byte.is_ascii_hexdigit() || byte.is_ascii_whitespace())
+}
+
+/// The bytes that a hex text stands for. `of` is what it is the text of.
+pub fn from_hex(text: &[u8], of: &str) -> Checked<Vec<u8>> {
+    let mut digits = Vec::with_capacity(text.len());
+    for (at, &byte) in text.iter().enumerate() {
+        match char::from(byte).to_digit(16) {
+            Some(digit) => digits.push(digit as u8),
+            None if byte.is_ascii_whitespace() => {}
+            None => {
+                return mistake(format!(
+                    "{of}: byte {at} is no hex digit: hex text has the digits 0 to 9 and a to f and white space only"
+                ))
+            }
+        }
+    }
+    if digits.len() % 2 == 1 {
+        return mistake(format!(
+            "{of}: {} hex digits are an odd number: a byte has two, so that one is missing or one too many",
+            digits.len()
+        ));
+    }
+    Ok(digits.chunks(2).map(|pair| pair[0] << 4 | pair[1]).collect())
+}
+
+/// So many bytes from hex digits without white space.
+pub fn exactly<const N: usize>(text: &str, of: &str) -> Checked<[u8; N]> {
+    let wrong = || mistake(format!("{of}: `{text}` is not {} hex digits", 2 * N));
+    if text.len() != 2 * N || !text.bytes().all(|byte| byte.is_ascii_hexdigit()) {
+        return wrong();
+    }
+    from_hex(text.as_bytes(), of)?.try_into().or_else(|_| wrong())
+}
+
+/// Hex text with a line for each part; the parts' sizes, then lines of 32 bytes.
+pub fn lines(bytes: &[u8], sizes: impl IntoIterator<Item = usize>) -> String {
+    let mut text = String::new();
+    let mut rest = bytes;
+    for size in sizes.into_iter().chain(std::iter::repeat(32)) {
+        if rest.is_empty() {
+            break;
+        }
+        let (part, behind) = rest.split_at(size.min(rest.len()));
+        text += &to_hex(part);
+        text.push('\n');
+        rest = behind;
+    }
+    text
+}
+
+#[cfg(test)]
+mod tests {
+    use super::*;
+
+    #[test]
+    fn hex_is_read_with_white_space_and_either_case() {
+        assert_eq!(from_hex(b" 0A\n0b\tf f\r\n", "t").unwrap(), [10, 11, 255]);
+        assert_eq!(from_hex(b"", "t").unwrap(), []);
+        assert!(from_hex(b"0a0", "t").is_err());
+        assert!(from_hex(b"0g", "t").is_err());
+        assert!(exactly::<2>("0a0", "t").is_err());
+        assert!(exactly::<2>("0a 0b", "t").is_err());
+        assert_eq!(exactly::<2>("0a0b", "t").unwrap(), [10, 11]);
+    }
+
+    #[test]
+    fn lines_hold_all_bytes() {
+        assert_eq!(lines(&[1, 2, 3], [2]), "0102\n03\n");
+        assert_eq!(lines(&[1], [4, 8]), "01\n");
+        assert_eq!(lines(&[], [4]), "");
+    }
+}

@@ -1,0 +1,124 @@
+//! A plan's stations as the bytes of an itinerary, and what can be read of such bytes.
+
+use crate::interfaces::Interface;
+use crate::mistake::{mistake, Checked};
+use crate::plan::Station;
+use standard_path::{check_journey, JourneyError, ScionNetworkTime};
+
+const RECORD: usize = 32;
+const MOST_RECORDS: usize = 2_048;
+
+/// The most interfaces that are read of one plan: more than all stations of a path can have.
+const MOST_INTERFACES: usize = 64 * 256;
+
+/// The bytes: record 0, a record for each station, a record for each interface, all in order.
+pub fn to_bytes(stations: &[Station]) -> Checked<Vec<u8>> {
+    let interfaces: usize = stations.iter().map(|station| station.interfaces.len()).sum();
+    let records = 1 + stations.len() + interfaces;
+    if records > MOST_RECORDS {
+        return mistake(format!(
+            "the plan takes {records} records (1, and one for each station and each interface), and 2,048 is the most: \
+             leave out interfaces that no path uses"
+        ));
+    }
+    let index = |index: usize| (index as u16).to_be_bytes();
+    let next = |at: usize, index_of_next: usize, count: usize| index(if at + 1 < count { index_of_next } else { 0 });
+    let mut bytes = vec![0; RECORD * records];
+    bytes[..2].copy_from_slice(&index(stations.len().min(1)));
+    let mut free = 1 + stations.len();
+    for (at, station) in stations.iter().enumerate() {
+        let record = &mut bytes[RECORD * (at + 1)..][..RECORD];
+        let count = station.interfaces.len();
+        record[..2].copy_from_slice(&next(at, at + 2, stations.len()));
+        record[2..4].copy_from_slice(&station.arrival.to_be_bytes());
+        record[4..6].copy_from_slice(&index(if count == 0 { 0 } else { free }));
+        record[8..24].copy_from_slice(&station.key);
+        for (place, &(number, state)) in station.interfaces.iter().enumerate() {
+            let record = &mut bytes[RECORD * free..][..RECORD];
+            record[..2].copy_from_slice(&next(place, free + 1, count));
+            record[2..4].copy_from_slice(&number.to_be_bytes());
+            record[4] = state;
+            free += 1;
+        }
+    }
+    Ok(bytes)
+}
+
+/// What can be read of an itinerary, and where the reading stopped short.
+pub struct Read {
+    pub stations: Vec<Station>,
+    pub remarks: Vec<String>,
+}
+
+/// Reads as far as the records go: every chain ends, since it only goes up.
+pub fn read(bytes: &[u8]) -> Read {
+    let mut remarks = Vec::new();
+    let over = bytes.len() % RECORD;
+    if over != 0 {
+        remarks.push(format!(
+            "{} bytes are no whole number of records of 32 bytes",
+            bytes.len()
+        ));
+    }
+    let mut left = MOST_INTERFACES;
+    let chain_of_stations = chain(bytes, number(bytes, 0), "station", MOST_RECORDS, &mut remarks);
+    let mut stations = Vec::new();
+    for record in chain_of_stations {
+        let first = number(bytes, RECORD * record + 4);
+        let interfaces = chain(bytes, first, "interface", left, &mut remarks);
+        left -= interfaces.len();
+        let station = bytes[RECORD * record..][..RECORD].first_chunk::<24>();
+        let key = station.and_then(|station| station[8..].try_into().ok());
+        stations.push(Station {
+            arrival: number(bytes, RECORD * record + 2) as u16,
+            key: key.unwrap_or_default(),
+            interfaces: interfaces.into_iter().map(|record| interface(bytes, record)).collect(),
+        });
+    }
+    Read { stations, remarks }
+}
+
+fn interface(bytes: &[u8], record: usize) -> Interface {
+    let at = RECORD * record;
+    (number(bytes, at + 2) as u16, bytes[at + 4])
+}
+
+/// A big-endian number of two bytes; 0 past the end.
+fn number(bytes: &[u8], at: usize) -> usize {
+    let byte = |at: usize| usize::from(bytes.get(at).copied().unwrap_or(0));
+    byte(at) << 8 | byte(at + 1)
+}
+
+/// The records of a chain that are there whole, as long as each next is above its own index.
+fn chain(bytes: &[u8], first: usize, of: &str, most: usize, remarks: &mut Vec<String>) -> Vec<usize> {
+    let count = bytes.len() / RECORD;
+    let mut records = Vec::new();
+    let mut next = first;
+    while next != 0 {
+        let stop = if next >= count {
+            format!("a chain of {of} records leads to record {next}, and the plan has {count}")
+        } else if records.last().is_some_and(|&own| next <= own) {
+            format!("a chain of {of} records goes back to record {next}")
+        } else if records.len() == most {
+            format!("there are more {of} records than are shown")
+        } else {
+            records.push(next);
+            next = number(bytes, RECORD * next);
+            continue;
+        };
+        remarks.push(stop);
+        break;
+    }
+    records
+}
+
+/// Whether question 23 would let the plan through for a path with as many stations as it has: the library's answer for
+/// a path of one segment with a hop for each. A path has at most 63 stations.
+pub fn fits_some_path(bytes: &[u8], stations: usize) -> bool {
+    let length = stations.min(63);
+    let mut path = vec![0; 12 + 12 * length];
+    path[1] = (length >> 4) as u8;
+    path[2] = (length << 4) as u8;
+    let at = ScionNetworkTime::from_timestamp_secs(0);
+    check_journey(&path, bytes, at, at) != Err(JourneyError::UnfitItinerary)
+}

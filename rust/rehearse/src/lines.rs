@@ -1,0 +1,73 @@
+//! The lines of a text form: words, with the number of their line. `#` starts a comment; empty lines are free.
+
+use crate::mistake::{mistake, Checked};
+
+pub struct Line<'a> {
+    /// The text's name, for mistakes.
+    pub of: &'a str,
+    pub number: usize,
+    pub words: Vec<&'a str>,
+}
+
+pub fn lines<'a>(text: &'a str, of: &'a str) -> impl Iterator<Item = Line<'a>> {
+    let words = |line: &'a str| -> Vec<&'a str> {
+        let said = line.split('#').next().unwrap_or("");
+        said.split_whitespace().collect()
+    };
+    let numbered = text.lines().enumerate();
+    numbered
+        .map(move |(at, line)| Line {
+            of,
+            number: at + 1,
+            words: words(line),
+        })
+        .filter(|line| !line.words.is_empty())
+}
+
+impl<'a> Line<'a> {
+    /// A mistake in this line; `write` is what to write instead.
+    pub fn wrong<T>(&self, write: impl AsRef<str>) -> Checked<T> {
+        mistake(format!("{}, line {}: {}", self.of, self.number, write.as_ref()))
+    }
+
+    /// Where this line is, for mistakes about one of its words.
+    pub fn place(&self) -> String {
+        format!("{}, line {}", self.of, self.number)
+    }
+
+    /// The one word behind the first.
+    pub fn only(&self, example: &str) -> Checked<&'a str> {
+        match self.words[..] {
+            [_, word] => Ok(word),
+            _ => self.wrong(format!("write one word behind `{}`, as `{example}`", self.words[0])),
+        }
+    }
+
+    /// A whole number up to a highest one.
+    pub fn number_up_to(&self, word: &str, highest: u16) -> Checked<u16> {
+        let number = word
+            .parse()
+            .ok()
+            .filter(|&number| number <= highest && !word.starts_with('+'));
+        match number {
+            Some(number) => Ok(number),
+            None => self.wrong(format!("`{word}` is no whole number from 0 to {highest}")),
+        }
+    }
+
+    /// So many bytes as hex digits.
+    pub fn hex<const N: usize>(&self, word: &str) -> Checked<[u8; N]> {
+        crate::hex::exactly(word, &self.place())
+    }
+}
+
+/// Puts a value where there is none yet.
+pub fn once<T>(place: &mut Option<T>, value: T, line: &Line<'_>) -> Checked<()> {
+    match place.replace(value) {
+        None => Ok(()),
+        Some(_) => line.wrong(format!(
+            "`{}` stands here a second time: leave one of them",
+            line.words[0]
+        )),
+    }
+}

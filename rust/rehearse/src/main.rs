@@ -1,0 +1,40 @@
+//! `rehearse`: shows path headers and site plans, and what the proved library says of them.
+//!
+//! Nothing here decides about a path: a command reads what it is given, calls the library and prints the answer.
+#![forbid(unsafe_code)]
+
+mod answers;
+mod arguments;
+mod commands;
+mod dates;
+mod drive;
+mod files;
+mod header;
+mod hex;
+mod interfaces;
+mod itinerary;
+mod json;
+mod lines;
+mod mistake;
+mod output;
+mod path_text;
+mod plan;
+mod report;
+mod sentences;
+mod signing;
+
+use std::process::ExitCode;
+
+fn main() -> ExitCode {
+    let words: Vec<_> = std::env::args_os().skip(1).collect();
+    let said = commands::run(&words, &files::Files::on_disk());
+    let status = match output::print(&said.out) {
+        Ok(()) => said.status,
+        Err(mistake) => {
+            output::complain(&format!("rehearse: {}\n", mistake.0));
+            2
+        }
+    };
+    output::complain(&said.err);
+    ExitCode::from(status)
+}

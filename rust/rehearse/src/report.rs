@@ -1,0 +1,126 @@
+//! What a command has to say: as text, as a JSON object, and as an exit status.
+
+use crate::answers::Answer;
+use crate::header::Header;
+use crate::hex::to_hex;
+use crate::json::Json;
+
+pub struct Report {
+    pub text: String,
+    pub json: Vec<(&'static str, Json)>,
+    /// What goes to standard error beside the text.
+    pub notes: Vec<String>,
+    pub status: u8,
+}
+
+impl Report {
+    /// An answer of the library, with its details.
+    pub fn of(command: &'static str, answer: &Answer) -> Report {
+        let mut report = Report {
+            text: format!("{}\n", answer.headline()),
+            json: answer.json(command),
+            notes: Vec::new(),
+            status: u8::from(!answer.is_good),
+        };
+        report.lines(&answer.details());
+        report
+    }
+
+    /// Something that was done, or shown, without an answer of the library.
+    pub fn done(command: &'static str, answer: &'static str, text: String) -> Report {
+        Report {
+            text,
+            json: vec![
+                ("command", Json::text(command)),
+                ("answer", Json::text(answer)),
+                ("number", Json::Null),
+            ],
+            notes: Vec::new(),
+            status: 0,
+        }
+    }
+
+    pub fn line(&mut self, name: &str, text: impl AsRef<str>) {
+        self.text += &format!("    {name:<12} {}\n", text.as_ref());
+    }
+
+    pub fn lines(&mut self, lines: &[(String, String)]) {
+        for (name, text) in lines {
+            self.line(name, text);
+        }
+    }
+
+    pub fn member(&mut self, name: &'static str, value: Json) {
+        self.json.push((name, value));
+    }
+
+    /// Which bytes a call changed, before and after, and the header that it left.
+    pub fn path_left(&mut self, before: &[u8], after: &[u8]) {
+        let changes = changes(before, after);
+        let bytes: usize = changes.iter().map(|change| change.before.len()).sum();
+        match bytes {
+            0 => self.line("changed", "no byte of the path"),
+            bytes => self.line("changed", format!("{} of the path", counted(bytes, "byte"))),
+        }
+        for Change {
+            at,
+            field,
+            before,
+            after,
+        } in &changes
+        {
+            let (before, after) = (to_hex(before), to_hex(after));
+            self.text += &format!("        byte {at:<4} {before} -> {after}  {field}\n");
+        }
+        let (header, behind) = Header(after).parts();
+        self.line("path", to_hex(header));
+        let list = changes.into_iter().map(|change| {
+            Json::Object(vec![
+                ("at", Json::number(change.at as u64)),
+                ("field", Json::text(change.field)),
+                ("before", Json::text(to_hex(&change.before))),
+                ("after", Json::text(to_hex(&change.after))),
+            ])
+        });
+        self.member("bytes_changed", Json::List(list.collect()));
+        self.member("path", Json::text(to_hex(header)));
+        self.member("bytes_behind", Json::number(behind.len() as u64));
+    }
+}
+
+/// Bytes of one field that a call changed, one behind the other.
+struct Change {
+    at: usize,
+    field: String,
+    before: Vec<u8>,
+    after: Vec<u8>,
+}
+
+fn changes(before: &[u8], after: &[u8]) -> Vec<Change> {
+    let mut changes: Vec<Change> = Vec::new();
+    let mut fields = Header(before).fields();
+    let size = Header(before).size();
+    fields.push((size, before.len().saturating_sub(size), "behind the header".into()));
+    for (start, size, field) in fields {
+        let bytes = before.iter().zip(after).enumerate().skip(start).take(size);
+        for (at, (&old, &new)) in bytes.filter(|(_, (old, new))| old != new) {
+            match changes.last_mut() {
+                Some(last) if last.field == field && last.at + last.before.len() == at => {
+                    last.before.push(old);
+                    last.after.push(new);
+                }
+                _ => changes.push(Change {
+                    at,
+                    field: field.clone(),
+                    before: vec![old],
+                    after: vec![new],
+                }),
+            }
+        }
+    }
+    changes
+}
+
+pub fn counted(count: usize, of: &str) -> String {
+    format!("{count} {of}{}", if count == 1 { "" } else { "s" })
+}

@@ -1,0 +1,214 @@
+//! A path header from its text, its MACs worked out. The MAC itself is the library's.
+
+use crate::mistake::{mistake, Checked};
+use crate::path_text::{HopText, PathText, SegmentText, Start};
+use standard_path::{calculate_hop_mac, ForwardingKey};
+
+pub struct Signed {
+    pub bytes: Vec<u8>,
+    /// How many MACs were worked out.
+    pub worked_out: usize,
+    /// What could not be signed, a sentence each.
+    pub notes: Vec<String>,
+}
+
+/// Writes the header. The stations' keys go to the hops in path order, one each, but a segment's last hop and the next
+/// one's first have one station.
+pub fn sign(path: &PathText, keys: Option<&[ForwardingKey]>) -> Checked<Signed> {
+    let mut lengths = [0; 3];
+    let mut signer = Signer {
+        keys,
+        hop: 0,
+        station: 0,
+        worked_out: 0,
+        notes: Vec::new(),
+    };
+    let (mut infos, mut hops) = (Vec::new(), Vec::new());
+    for (place, segment) in path.segments.iter().enumerate() {
+        let Some(segment) = segment else { continue };
+        lengths[place] = segment.hops.len() as u32;
+        let (seg_id, macs) = signer.segment(segment)?;
+        infos.extend(info_bytes(segment, seg_id));
+        for (hop, mac) in segment.hops.iter().zip(macs) {
+            hops.extend(hop_bytes(hop, segment.cons_dir, mac));
+        }
+    }
+    let word = u32::from(path.curr_inf) << 30 | u32::from(path.curr_hf) << 24 | u32::from(path.reserved) << 18;
+    let word = word | lengths[0] << 12 | lengths[1] << 6 | lengths[2];
+    let bytes = [&word.to_be_bytes()[..], &infos, &hops, &path.behind].concat();
+    Ok(Signed {
+        bytes,
+        worked_out: signer.worked_out,
+        notes: signer.notes,
+    })
+}
+
+struct Signer<'a> {
+    keys: Option<&'a [ForwardingKey]>,
+    /// The segment's first hop, and that hop's station.
+    hop: usize,
+    station: usize,
+    worked_out: usize,
+    notes: Vec<String>,
+}
+
+impl Signer<'_> {
+    /// The SegID that the header carries at its start, and the MACs in the order of travel.
+    fn segment(&mut self, segment: &SegmentText) -> Checked<(u16, Vec<[u8; 6]>)> {
+        let count = segment.hops.len();
+        let mut macs = vec![[0; 6]; count];
+        let seg_id = match (segment.cons_dir, segment.start) {
+            // The first hop's MAC is made with the SegID, each later one's with the heads of those before it.
+            (true, Start::SegId(seg_id) | Start::Beta(seg_id)) => {
+                let mut beta = seg_id;
+                for (at, mac) in macs.iter_mut().enumerate() {
+                    *mac = self.mac(segment, at, beta);
+                    beta ^= head(*mac);
+                }
+                seg_id
+            }
+            // The last hop was constructed first. The header starts with what the chain has come to at the first hop.
+            (false, Start::Beta(beta)) => {
+                let mut beta = beta;
+                for at in (1..count).rev() {
+                    macs[at] = self.mac(segment, at, beta);
+                    beta ^= head(macs[at]);
+                }
+                macs[0] = self.mac(segment, 0, beta);
+                beta
+            }
+            // Of the first hop alone the MAC can be worked out: a later one's goes into the SegID that it is made with.
+            (false, Start::SegId(seg_id)) => {
+                for (at, hop) in segment.hops.iter().enumerate().skip(1) {
+                    let Some(mac) = hop.mac else {
+                        return mistake(format!(
+                            "{}: with `cons_dir no` and `seg_id` this hop needs a `mac`: write `beta` in place of \
+                             `seg_id`, and the MACs and the SegID are worked out",
+                            hop.place
+                        ));
+                    };
+                    macs[at] = mac;
+                }
+                macs[0] = self.mac(segment, 0, seg_id);
+                seg_id
+            }
+        };
+        self.hop += count;
+        self.station += count - 1;
+        Ok((seg_id, macs))
+    }
+
+    /// The MAC of a hop: the one given, else the library's under the station's key, else zeros and a note.
+    fn mac(&mut self, segment: &SegmentText, at: usize, seg_id: u16) -> [u8; 6] {
+        let hop = &segment.hops[at];
+        if let Some(mac) = hop.mac {
+            return mac;
+        }
+        let (index, station) = (self.hop + at, self.station + at);
+        let Some(key) = self.keys.and_then(|keys| keys.get(station)) else {
+            let why = match self.keys {
+                None => "no plan was given (--plan)".to_string(),
+                Some(keys) => format!(
+                    "the plan has {} stations, and this hop is station {station}'s",
+                    keys.len()
+                ),
+            };
+            self.notes
+                .push(format!("hop {index} has no key, so that its MAC is zeros: {why}"));
+            return [0; 6];
+        };
+        self.worked_out += 1;
+        let [ingress, egress] = constructed(hop, segment.cons_dir);
+        calculate_hop_mac(seg_id, segment.timestamp, hop.exp_time, ingress, egress, key)
+    }
+}
+
+fn head(mac: [u8; 6]) -> u16 {
+    u16::from_be_bytes([mac[0], mac[1]])
+}
+
+/// ConsIngress and ConsEgress.
+fn constructed(hop: &HopText, cons_dir: bool) -> [u16; 2] {
+    let [into, out] = hop.travel;
+    if cons_dir {
+        [into, out]
+    } else {
+        [out, into]
+    }
+}
+
+fn info_bytes(segment: &SegmentText, seg_id: u16) -> [u8; 8] {
+    let flags = segment.reserved_flags | u8::from(segment.cons_dir) | u8::from(segment.peering) << 1;
+    let ([s0, s1], [t0, t1, t2, t3]) = (seg_id.to_be_bytes(), segment.timestamp.to_be_bytes());
+    [flags, segment.reserved, s0, s1, t0, t1, t2, t3]
+}
+
+fn hop_bytes(hop: &HopText, cons_dir: bool, mac: [u8; 6]) -> [u8; 12] {
+    let [alert_in, alert_out] = hop.alerts.map(u8::from);
+    let (ingress_alert, egress_alert) = if cons_dir {
+        (alert_in, alert_out)
+    } else {
+        (alert_out, alert_in)
+    };
+    let flags = hop.reserved_flags | ingress_alert << 1 | egress_alert;
+    let [[i0, i1], [e0, e1]] = constructed(hop, cons_dir).map(u16::to_be_bytes);
+    let [m0, m1, m2, m3, m4, m5] = mac;
+    [flags, hop.exp_time, i0, i1, e0, e1, m0, m1, m2, m3, m4, m5]
+}
+
+/// The text form of a whole header, its MACs as they are: signing it gives the same bytes.
+pub fn to_text(bytes: &[u8]) -> String {
+    use crate::hex::to_hex;
+    let header = crate::header::Header(bytes);
+    let mut text = format!(
+        "path\n    curr_inf {}\n    curr_hf {}\n",
+        header.curr_inf(),
+        header.curr_hf()
+    );
+    if header.reserved() != 0 {
+        text += &format!("    reserved {}\n", header.reserved());
+    }
+    let segments = header.segments();
+    for (at, segment) in segments.iter().enumerate() {
+        let before = at.checked_sub(1).map_or(0, |before| segments[before].place + 1);
+        text += &"segment none\n".repeat(segment.place - before);
+        let Some(info) = header.info(segment.info) else { break };
+        let yes = |flag: bool| if flag { "yes" } else { "no" };
+        text += &format!(
+            "segment\n    cons_dir {}\n    peering {}\n",
+            yes(info.cons_dir()),
+            yes(info.peering())
+        );
+        if info.reserved_flags() != 0 {
+            text += &format!("    reserved_flags {:02x}\n", info.reserved_flags());
+        }
+        if info.reserved() != 0 {
+            text += &format!("    reserved {:02x}\n", info.reserved());
+        }
+        let timestamp = crate::dates::date(info.timestamp());
+        text += &format!("    seg_id {:04x}\n    timestamp {timestamp}\n", info.seg_id());
+        for hop in (segment.first_hop..)
+            .take(segment.hops)
+            .map_while(|index| header.hop(index))
+        {
+            let [into, out] = hop.travel(info.cons_dir());
+            text += &format!("    hop in {into} out {out} exp_time {}", hop.exp_time());
+            for (_, name) in hop
+                .alerts(info.cons_dir())
+                .iter()
+                .zip(["ingress", "egress"])
+                .filter(|(&set, _)| set)
+            {
+                text += &format!(" alert {name}");
+            }
+            if hop.reserved_flags() != 0 {
+                text += &format!(" reserved_flags {:02x}", hop.reserved_flags());
+            }
+            text += &format!(" mac {}\n", to_hex(&hop.mac()));
+        }
+    }
+    for line in header.parts().1.chunks(32) {
+        text += &format!("behind {}\n", to_hex(line));
+    }
+    text
+}
