@@ -66,7 +66,7 @@ impl Arguments {
             return self.wrong(format!("{name} is not an option of this command"));
         };
         let Some(value) = given.or_else(|| words.next().cloned()) else {
-            return self.wrong(format!("{name} needs {what} behind it"));
+            return self.wrong(format!("{name} needs a value behind it ({what})"));
         };
         if self.value(name).is_some() {
             return self.wrong(format!("{name} is given twice"));
@@ -121,10 +121,14 @@ impl Arguments {
     /// A whole number from 0 to 65535.
     pub fn interface(&self, name: &str) -> Checked<u16> {
         let text = self.needed(name)?;
-        text.parse().or_else(|_| {
-            mistake(format!(
-                "{name}: `{text}` is no interface number: write a whole number from 0 to 65535"
-            ))
-        })
+        let number = text.parse().ok().filter(|_| !text.starts_with('+'));
+        number.map_or_else(
+            || {
+                mistake(format!(
+                    "{name}: `{text}` is no interface number: write a whole number from 0 to 65535"
+                ))
+            },
+            Ok,
+        )
     }
 }

@@ -59,7 +59,7 @@ impl Files {
         match String::from_utf8(bytes) {
             Ok(text) if is_plain(&text) => Ok(text.strip_prefix('\u{feff}').unwrap_or(&text).to_owned()),
             _ => mistake(format!(
-                "{} is no text: this command reads a text form, written by people",
+                "{} is no text: give the text form that the command's --help describes",
                 shown(name)
             )),
         }

@@ -61,13 +61,10 @@ impl<'a> Line<'a> {
     }
 }
 
-/// Puts a value where there is none yet.
-pub fn once<T>(place: &mut Option<T>, value: T, line: &Line<'_>) -> Checked<()> {
+/// Puts a value where there is none yet; `name` is what stands for it in the text.
+pub fn once<T>(place: &mut Option<T>, value: T, line: &Line<'_>, name: &str) -> Checked<()> {
     match place.replace(value) {
         None => Ok(()),
-        Some(_) => line.wrong(format!(
-            "`{}` stands here a second time: leave one of them",
-            line.words[0]
-        )),
+        Some(_) => line.wrong(format!("{name} stands here a second time: leave one of them")),
     }
 }

@@ -1,6 +1,7 @@
 //! The text form of a path header, as people write it for `rehearse sign`.
 
 use crate::dates;
+use crate::hop_text::{hop, reserved_flags, HopText};
 use crate::lines::{lines, once, Line};
 use crate::mistake::{mistake, Checked};
 
@@ -32,18 +33,6 @@ pub enum Start {
     Beta(u16),
 }
 
-pub struct HopText {
-    /// The place of its line, for mistakes.
-    pub place: String,
-    /// The interfaces in travel direction: in, out.
-    pub travel: [u16; 2],
-    pub exp_time: u8,
-    /// The alerts in travel direction: in, out.
-    pub alerts: [bool; 2],
-    pub reserved_flags: u8,
-    pub mac: Option<[u8; 6]>,
-}
-
 // ---- blocks
 
 /// The words of a `path` or `segment` block that are still being read.
@@ -69,33 +58,49 @@ impl Draft {
                 &mut self.curr_inf,
                 line.number_up_to(line.only("curr_inf 0")?, 3)?,
                 line,
+                "`curr_inf`",
             ),
-            ("curr_hf", false) => once(&mut self.curr_hf, line.number_up_to(line.only("curr_hf 0")?, 63)?, line),
+            ("curr_hf", false) => once(
+                &mut self.curr_hf,
+                line.number_up_to(line.only("curr_hf 0")?, 63)?,
+                line,
+                "`curr_hf`",
+            ),
             ("reserved", false) => {
                 let bits = line.number_up_to(line.only("reserved 0")?, 63)?;
-                once(&mut self.reserved, bits as u8, line)
+                once(&mut self.reserved, bits as u8, line, "`reserved`")
             }
             ("reserved", true) => {
                 let [byte] = line.hex(line.only("reserved 00")?)?;
-                once(&mut self.reserved, byte, line)
+                once(&mut self.reserved, byte, line, "`reserved`")
             }
             ("reserved_flags", true) => {
                 let flags = reserved_flags(line, line.only("reserved_flags 04")?)?;
-                once(&mut self.reserved_flags, flags, line)
+                once(&mut self.reserved_flags, flags, line, "`reserved_flags`")
             }
-            ("cons_dir", true) => once(&mut self.cons_dir, yes_or_no(line)?, line),
-            ("peering", true) => once(&mut self.peering, yes_or_no(line)?, line),
+            ("cons_dir", true) => once(&mut self.cons_dir, yes_or_no(line)?, line, "`cons_dir`"),
+            ("peering", true) => once(&mut self.peering, yes_or_no(line)?, line, "`peering`"),
             ("seg_id", true) => {
                 let bytes = line.hex(line.only("seg_id 1234")?)?;
-                once(&mut self.start, Start::SegId(u16::from_be_bytes(bytes)), line)
+                once(
+                    &mut self.start,
+                    Start::SegId(u16::from_be_bytes(bytes)),
+                    line,
+                    "`seg_id` or `beta`",
+                )
             }
             ("beta", true) => {
                 let bytes = line.hex(line.only("beta 1234")?)?;
-                once(&mut self.start, Start::Beta(u16::from_be_bytes(bytes)), line)
+                once(
+                    &mut self.start,
+                    Start::Beta(u16::from_be_bytes(bytes)),
+                    line,
+                    "`seg_id` or `beta`",
+                )
             }
             ("timestamp", true) => {
                 let time = dates::time(&line.words[1..].join(" "), &line.place())?;
-                once(&mut self.timestamp, time, line)
+                once(&mut self.timestamp, time, line, "`timestamp`")
             }
             ("hop", true) => {
                 self.hops.push(hop(line)?);
@@ -205,108 +210,5 @@ fn yes_or_no(line: &Line<'_>) -> Checked<bool> {
         [_, "yes"] => Ok(true),
         [_, "no"] => Ok(false),
         _ => line.wrong(format!("write `{0} yes` or `{0} no`", line.words[0])),
-    }
-}
-
-/// The six flag bits that have no name.
-fn reserved_flags(line: &Line<'_>, word: &str) -> Checked<u8> {
-    let [flags] = line.hex(word)?;
-    if flags & 3 != 0 {
-        return line.wrong(format!(
-            "`{word}` sets one of the two lowest bits, which have words of their own (cons_dir and peering; alert)"
-        ));
-    }
-    Ok(flags)
-}
-
-const HOP: &str =
-    "write `hop in 0 out 1 lasts 6h`, with `exp_time 63` in place of `lasts 6h` if you like, and behind it \
-                   what is needed of `alert ingress`, `alert egress`, `reserved_flags 04`, `mac 0123456789ab`";
-
-fn hop(line: &Line<'_>) -> Checked<HopText> {
-    let (mut into, mut out, mut exp_time, mut mac, mut flags) = (None, None, None, None, None);
-    let mut alerts = [false; 2];
-    for pair in line.words[1..].chunks(2) {
-        let &[name, word] = pair else {
-            return line.wrong(HOP);
-        };
-        match (name, word) {
-            ("in", word) => once(&mut into, line.number_up_to(word, u16::MAX)?, line)?,
-            ("out", word) => once(&mut out, line.number_up_to(word, u16::MAX)?, line)?,
-            ("lasts", word) => once(&mut exp_time, exp_time_of(line, word)?, line)?,
-            ("exp_time", word) => once(&mut exp_time, line.number_up_to(word, 255)? as u8, line)?,
-            ("alert", "ingress") => alerts[0] = true,
-            ("alert", "egress") => alerts[1] = true,
-            ("reserved_flags", word) => once(&mut flags, reserved_flags(line, word)?, line)?,
-            ("mac", word) => once(&mut mac, line.hex(word)?, line)?,
-            _ => return line.wrong(HOP),
-        }
-    }
-    let (Some(into), Some(out), Some(exp_time)) = (into, out, exp_time) else {
-        return line.wrong(HOP);
-    };
-    Ok(HopText {
-        place: line.place(),
-        travel: [into, out],
-        exp_time,
-        alerts,
-        reserved_flags: flags.unwrap_or(0),
-        mac,
-    })
-}
-
-/// The least ExpTime that lasts so long. A hop lasts (ExpTime + 1) times 337.5 seconds, a day at most.
-fn exp_time_of(line: &Line<'_>, word: &str) -> Checked<u8> {
-    let seconds = [("s", 1), ("m", 60), ("h", 3_600)].iter().find_map(|(unit, seconds)| {
-        let number = word.strip_suffix(unit)?;
-        let is_number = !number.is_empty() && number.bytes().all(|byte| byte.is_ascii_digit());
-        number.parse::<u64>().ok().filter(|_| is_number)?.checked_mul(*seconds)
-    });
-    match seconds.map(|seconds| seconds.saturating_mul(2).div_ceil(675)) {
-        Some(units @ 0..=256) => Ok(units.saturating_sub(1) as u8),
-        _ => line.wrong(format!(
-            "`{word}` is no time that a hop can last: write a number and s, m or h, up to 24h, as `lasts 6h`"
-        )),
-    }
-}
-
-#[cfg(test)]
-mod tests {
-    use super::*;
-
-    #[test]
-    fn a_hop_lasts_at_least_as_long_as_asked() {
-        let line = Line {
-            of: "t",
-            number: 1,
-            words: vec![],
-        };
-        for (word, exp_time) in [
-            ("0s", 0),
-            ("337s", 0),
-            ("338s", 1),
-            ("675s", 1),
-            ("1h", 10),
-            ("6h", 63),
-            ("360m", 63),
-            ("24h", 255),
-            ("86400s", 255),
-        ] {
-            assert_eq!(exp_time_of(&line, word).unwrap(), exp_time, "{word}");
-        }
-        for word in [
-            "",
-            "h",
-            "6",
-            "25h",
-            "86401s",
-            "-1h",
-            "+1h",
-            "6 h",
-            "99999999999999999999h",
-            "18446744073709551615h",
-        ] {
-            assert!(exp_time_of(&line, word).is_err(), "{word}");
-        }
     }
 }

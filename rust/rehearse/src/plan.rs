@@ -28,11 +28,11 @@ impl Draft {
         match line.words[0] {
             "arrival" => {
                 let word = line.only("arrival 0")?;
-                once(&mut self.arrival, line.number_up_to(word, u16::MAX)?, line)
+                once(&mut self.arrival, line.number_up_to(word, u16::MAX)?, line, "`arrival`")
             }
             "key" => {
                 let word = line.only("key 000102030405060708090a0b0c0d0e0f")?;
-                once(&mut self.key, line.hex(word)?, line)
+                once(&mut self.key, line.hex(word)?, line, "`key`")
             }
             "interface" => {
                 self.interfaces.push(interfaces::from_words(line, &line.words[1..])?);

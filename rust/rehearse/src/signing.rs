@@ -1,7 +1,8 @@
 //! A path header from its text, its MACs worked out. The MAC itself is the library's.
 
+use crate::hop_text::HopText;
 use crate::mistake::{mistake, Checked};
-use crate::path_text::{HopText, PathText, SegmentText, Start};
+use crate::path_text::{PathText, SegmentText, Start};
 use standard_path::{calculate_hop_mac, ForwardingKey};
 
 pub struct Signed {
@@ -154,61 +155,4 @@ fn hop_bytes(hop: &HopText, cons_dir: bool, mac: [u8; 6]) -> [u8; 12] {
     let [[i0, i1], [e0, e1]] = constructed(hop, cons_dir).map(u16::to_be_bytes);
     let [m0, m1, m2, m3, m4, m5] = mac;
     [flags, hop.exp_time, i0, i1, e0, e1, m0, m1, m2, m3, m4, m5]
-}
-
-/// The text form of a whole header, its MACs as they are: signing it gives the same bytes.
-pub fn to_text(bytes: &[u8]) -> String {
-    use crate::hex::to_hex;
-    let header = crate::header::Header(bytes);
-    let mut text = format!(
-        "path\n    curr_inf {}\n    curr_hf {}\n",
-        header.curr_inf(),
-        header.curr_hf()
-    );
-    if header.reserved() != 0 {
-        text += &format!("    reserved {}\n", header.reserved());
-    }
-    let segments = header.segments();
-    for (at, segment) in segments.iter().enumerate() {
-        let before = at.checked_sub(1).map_or(0, |before| segments[before].place + 1);
-        text += &"segment none\n".repeat(segment.place - before);
-        let Some(info) = header.info(segment.info) else { break };
-        let yes = |flag: bool| if flag { "yes" } else { "no" };
-        text += &format!(
-            "segment\n    cons_dir {}\n    peering {}\n",
-            yes(info.cons_dir()),
-            yes(info.peering())
-        );
-        if info.reserved_flags() != 0 {
-            text += &format!("    reserved_flags {:02x}\n", info.reserved_flags());
-        }
-        if info.reserved() != 0 {
-            text += &format!("    reserved {:02x}\n", info.reserved());
-        }
-        let timestamp = crate::dates::date(info.timestamp());
-        text += &format!("    seg_id {:04x}\n    timestamp {timestamp}\n", info.seg_id());
-        for hop in (segment.first_hop..)
-            .take(segment.hops)
-            .map_while(|index| header.hop(index))
-        {
-            let [into, out] = hop.travel(info.cons_dir());
-            text += &format!("    hop in {into} out {out} exp_time {}", hop.exp_time());
-            for (_, name) in hop
-                .alerts(info.cons_dir())
-                .iter()
-                .zip(["ingress", "egress"])
-                .filter(|(&set, _)| set)
-            {
-                text += &format!(" alert {name}");
-            }
-            if hop.reserved_flags() != 0 {
-                text += &format!(" reserved_flags {:02x}", hop.reserved_flags());
-            }
-            text += &format!(" mac {}\n", to_hex(&hop.mac()));
-        }
-    }
-    for line in header.parts().1.chunks(32) {
-        text += &format!("behind {}\n", to_hex(line));
-    }
-    text
 }

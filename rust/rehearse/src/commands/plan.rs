@@ -15,7 +15,10 @@ pub const FORM: Form = Form {
     command: "plan",
     places: &["TEXT"],
     values: &[
-        ("-o", "a file to write the plan to (- for hex text on standard output)"),
+        (
+            "-o",
+            "a file to write the plan to, or - for hex text on standard output",
+        ),
         ("--show", "a plan to show as text"),
     ],
     flags: &["--json", "--raw", "--hex"],

@@ -10,7 +10,7 @@ use crate::itinerary;
 use crate::json::Json;
 use crate::mistake::{mistake, Checked};
 use crate::report::{counted, Report};
-use crate::{path_text, plan, signing};
+use crate::{path_text, path_words, plan, signing};
 use standard_path::{expiration, HeaderError};
 use std::ffi::OsStr;
 
@@ -19,7 +19,10 @@ pub const FORM: Form = Form {
     places: &["TEXT"],
     values: &[
         ("--plan", "the plan whose keys sign the hops"),
-        ("-o", "a file to write the path to (- for hex text on standard output)"),
+        (
+            "-o",
+            "a file to write the path to, or - for hex text on standard output",
+        ),
         ("--show", "a path to show as text"),
     ],
     flags: &["--json", "--raw", "--hex"],
@@ -85,7 +88,7 @@ fn show(arguments: &Arguments, files: &Files, name: &OsStr) -> Checked<Report> {
             Header(&path).size()
         ));
     }
-    let text = signing::to_text(&path);
+    let text = path_words::to_text(&path);
     let mut report = match &answer {
         None => Report::done("sign", "shown", text.clone()),
         Some(answer) => Report {

@@ -1,0 +1,196 @@
+//! The other answers as they stand on the screen, JSON of every command, inputs in every form, and lists of journeys.
+
+mod common;
+
+use common::json::{parse, Value};
+use common::{expect, to_hex, Folder};
+
+const HALL_A: &str = "--table 1:parent:up --key 30a1f2c4b5d697e8091a2b3c4d5e6f70 --interface 0 --now 1794809100";
+const READINGS: &str = "--earliest 1794809100 --latest 2026-11-16T11:00:00Z";
+
+/// The example's files, and some more that lists of journeys need.
+fn folder() -> Folder {
+    let folder = Folder::with_site();
+    folder.write("key.hex", "30a1f2c4 b5d697e8 091a2b3c 4d5e6f70\n");
+    folder.write("key", common::from_hex("30a1f2c4b5d697e8091a2b3c4d5e6f70"));
+    folder.write("table.txt", "# hall A\ninterface 1 parent up\n");
+    let good = String::from_utf8(folder.read("good.txt")).unwrap();
+    folder.write("ask.txt", good.replace("out 1 lasts 6h", "out 1 lasts 6h alert egress"));
+    folder.write(
+        "answer.txt",
+        good.replace("in 11 out 0 lasts 6h", "in 11 out 0 lasts 6h alert ingress"),
+    );
+    for name in ["ask", "answer"] {
+        folder.run(&format!("sign {name}.txt --plan plan.txt -o {name}.path"));
+    }
+    folder.write("with space.path", folder.read("good.path"));
+    folder.write(
+        "list",
+        "# journeys\ngood.path site.plan\nlate.path plan.txt\n\nask.path site.plan\nwith space.path\tsite.plan\nnope site.plan\n",
+    );
+    folder.write("list-good", "good.path site.plan\n");
+    folder.write("list-late", "good.path site.plan\nlate.path site.plan\n");
+    folder
+}
+
+const CALLS: [&str; 22] = [
+    "show good.path",
+    "step good.path HALL_A --write next.path",
+    "step good.path HALL_A --ignore-macs",
+    "ingress good.path HALL_A",
+    "egress good.path --table 1:parent:up --key 30a1f2c4b5d697e8091a2b3c4d5e6f70 --interface 1 --now 1794809100",
+    "egress ask.path --table 1:parent:up --key 30a1f2c4b5d697e8091a2b3c4d5e6f70 --interface 1 --now 1794809100",
+    "step ask.path HALL_A",
+    "step answer.path --table 11:child:up,12:child:up --key 31b2e3d4c5f6a7980a1b2c3d4e5f6071 --interface 11 --now 1794809100 --ignore-macs",
+    "step next.path --table 11:child:up,12:child:up,13:child:down --key 31b2e3d4c5f6a7980a1b2c3d4e5f6071 --interface 11 --now 1794809100",
+    "step good.path --table 1:parent:down --key 30a1f2c4b5d697e8091a2b3c4d5e6f70 --interface 0 --now 1794809100",
+    "reverse good.path",
+    "expiration good.path",
+    "journey good.path site.plan READINGS",
+    "journey late.path site.plan READINGS",
+    "journey ask.path site.plan READINGS",
+    "plan plan.txt -o out.plan",
+    "plan --show site.plan",
+    "sign good.txt --plan plan.txt -o out.path",
+    "sign --show good.path",
+    "sign good.txt -o out.path",
+    "demo --write again",
+    "show nope",
+];
+
+#[test]
+fn each_answer_stands_on_the_screen_as_stored() {
+    let folder = folder();
+    let calls = CALLS.map(|call| call.replace("HALL_A", HALL_A).replace("READINGS", READINGS));
+    expect("answers.txt", &calls.map(|call| folder.transcript(&call)).concat());
+    expect("demo.txt", &folder.transcript("demo"));
+}
+
+#[test]
+fn each_answer_is_one_json_object_with_the_same_names() {
+    let folder = folder();
+    let mut all = String::new();
+    for call in CALLS.iter().chain(&[
+        "demo",
+        "show good.txt",
+        "step good.path",
+        "plan plan.txt",
+        "sign good.txt",
+    ]) {
+        let call = call.replace("HALL_A", HALL_A).replace("READINGS", READINGS);
+        let text = folder.run(&call);
+        let ran = folder.run(&format!("{call} --json"));
+        assert_eq!(ran.out.lines().count(), 1, "{call}");
+        let answer = parse(&ran.out);
+        assert_eq!(answer.text("command"), call.split(' ').next().unwrap(), "{call}");
+        answer.number("number");
+        let is_mistake = answer.text("answer") == "mistake";
+        assert_eq!(ran.status == 2, is_mistake, "{call}");
+        // Without -o the bytes are in the object.
+        if !call.ends_with("n.txt") && !call.ends_with("good.txt") {
+            assert_eq!(ran.status, text.status, "{call}");
+        }
+        if is_mistake {
+            assert_eq!(ran.err, format!("rehearse: {}\n", answer.text("sentence")));
+        }
+        all += &ran.out;
+    }
+    expect("answers.json", &all);
+}
+
+#[test]
+fn the_header_s_fields_are_in_json() {
+    let shown = parse(&folder().run("show good.path --json").out);
+    assert_eq!((shown.text("answer"), shown.number("number")), ("whole", None));
+    assert_eq!(shown.number("ends_before_byte"), Some(80));
+    let Some(Value::List(segments)) = shown.get("segments") else {
+        panic!("{shown:?}")
+    };
+    assert_eq!(segments[0].get("cons_dir"), Some(&Value::Flag(false)));
+    assert_eq!(segments[0].text("timestamp_date"), "2026-11-16T06:00:00Z");
+    let Some(Value::List(hops)) = segments[1].get("hops") else {
+        panic!("{shown:?}")
+    };
+    assert_eq!((hops[1].number("in"), hops[1].number("out")), (Some(21), Some(22)));
+    assert_eq!(hops[1].text("ends_date"), "2026-11-16T12:00:00Z");
+}
+
+#[test]
+fn inputs_are_the_same_in_every_form() {
+    let folder = folder();
+    let path = folder.read("good.path");
+    let hex: String = path.iter().map(|byte| format!("{byte:02X}\n ")).collect();
+    folder.write("good.hex", &hex);
+    let shown = folder.run("show good.path").out;
+    assert_eq!(folder.run("show good.hex").out, shown);
+    assert_eq!(folder.run("show good.hex --hex").out, shown);
+    assert_eq!(folder.run("show good.path --raw").out, shown);
+    assert_eq!(folder.call(&["show", "-"], &path).out, shown);
+    assert_eq!(folder.call(&["show", "-"], hex.as_bytes()).out, shown);
+    assert_eq!(folder.call(&["show", "--", "good.path"], b"").out, shown);
+
+    let step = folder.run(&format!("step good.path {HALL_A}")).out;
+    for other in [
+        "--table table.txt --key @key --interface 0 --now 2026-11-16T06:05:00Z",
+        "--table @table.txt --key @key.hex --interface 0 --now=1794809100",
+        "--now 2026-11-16T06:05Z --interface=0 --key 30A1F2C4B5D697E8091A2B3C4D5E6F70 --table=1:state:5",
+    ] {
+        assert_eq!(folder.run(&format!("step good.path {other}")).out, step, "{other}");
+    }
+
+    let journey = folder.run(&format!("journey good.path site.plan {READINGS}")).out;
+    folder.run("plan plan.txt -o plan.hex");
+    for plan in ["plan.txt", "plan.hex"] {
+        assert_eq!(folder.run(&format!("journey good.path {plan} {READINGS}")).out, journey);
+    }
+    let text = folder.read("plan.txt");
+    let words: Vec<&str> = "journey good.path - --earliest 1794809100 --latest 1794826800"
+        .split(' ')
+        .collect();
+    assert_eq!(folder.call(&words, &text).out, journey);
+
+    // Bytes behind the header are left alone, and written as they were.
+    let long = [&path[..], &[0xab; 1000]].concat();
+    folder.write("long.path", &long);
+    let ran = folder.run(&format!("step long.path {HALL_A} --write left --json"));
+    let (answer, left) = (parse(&ran.out), folder.read("left"));
+    assert_eq!(answer.number("bytes_behind"), Some(1000));
+    assert_eq!((left.len(), &left[80..]), (1080, &long[80..]));
+    assert_eq!(answer.text("path"), to_hex(&left[..80]));
+}
+
+#[test]
+fn a_list_of_journeys_has_a_line_each_and_a_summary() {
+    let folder = folder();
+    let mut said = folder.transcript(&format!("journey --batch list {READINGS}"));
+    said += &folder.transcript(&format!("journey --batch list-good {READINGS}"));
+    said += &folder.transcript(&format!("journey --batch list-late {READINGS}"));
+    expect("batch.txt", &said);
+    for (list, status) in [("list", 2), ("list-good", 0), ("list-late", 1)] {
+        let ran = folder.run(&format!("journey --batch {list} {READINGS} --json"));
+        assert_eq!(ran.status, status, "{list}");
+        let answers: Vec<Value> = ran.out.lines().map(parse).collect();
+        let (summary, journeys) = answers.split_last().unwrap();
+        assert_eq!(summary.text("answer"), "summary");
+        assert_eq!(summary.number("journeys"), Some(journeys.len() as u64));
+        for count in ["passed", "not_passed", "refused"] {
+            let counted = journeys
+                .iter()
+                .filter(|journey| journey.text("answer") == count)
+                .count();
+            assert_eq!(summary.number(count), Some(counted as u64), "{list} {count}");
+        }
+        assert!(journeys.iter().all(|journey| journey.number("line").is_some()));
+    }
+}
+
+#[test]
+fn a_long_list_is_gone_through() {
+    let folder = folder();
+    folder.write("long", "good.path site.plan\n".repeat(3000));
+    let ran = folder.run(&format!("journey --batch long {READINGS}"));
+    assert_eq!((ran.status, &ran.err[..]), (0, ""));
+    assert!(ran
+        .out
+        .ends_with("3000 journeys: 3000 passed, 0 not passed, 0 refused, 0 not read\n"));
+}

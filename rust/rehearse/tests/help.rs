@@ -1,0 +1,117 @@
+//! Help on every level: it is what the help files say, it has an example, and the example runs.
+
+mod common;
+
+use common::Folder;
+
+const COMMANDS: [&str; 10] = [
+    "demo",
+    "show",
+    "step",
+    "ingress",
+    "egress",
+    "journey",
+    "reverse",
+    "expiration",
+    "plan",
+    "sign",
+];
+
+fn stored(name: &str) -> String {
+    let file = format!("{}/help/{name}.txt", env!("CARGO_MANIFEST_DIR"));
+    std::fs::read_to_string(file).unwrap()
+}
+
+#[test]
+fn help_is_given_on_every_level() {
+    let folder = Folder::new();
+    for call in ["--help", "-h", "help", "help nothing"] {
+        let ran = folder.run(call);
+        assert_eq!(
+            (ran.status, ran.out, ran.err),
+            (0, stored("rehearse"), String::new()),
+            "{call}"
+        );
+    }
+    for command in COMMANDS {
+        assert!(
+            stored("rehearse").contains(&format!("    rehearse {command}")),
+            "{command}"
+        );
+        for call in [
+            format!("{command} --help"),
+            format!("{command} -h"),
+            format!("help {command}"),
+            format!("{command} x y z --unknown --help"),
+        ] {
+            let ran = folder.run(&call);
+            assert_eq!(
+                (ran.status, ran.out, ran.err),
+                (0, stored(command), String::new()),
+                "{call}"
+            );
+        }
+    }
+    assert_eq!(folder.run("--version").out, "rehearse 0.1.0\n");
+}
+
+/// The calls behind `    $ rehearse`, each with its going on behind a backslash.
+fn examples(help: &str) -> Vec<String> {
+    let joined = help.replace("\\\n", " ");
+    let lines = joined.lines().filter_map(|line| line.strip_prefix("    $ "));
+    lines.map(String::from).collect()
+}
+
+#[test]
+fn each_example_runs() {
+    for name in COMMANDS.iter().chain(&["rehearse"]) {
+        let help = stored(name);
+        assert!(
+            help.lines().all(|line| line.chars().count() <= 120),
+            "{name} has a long line"
+        );
+        let examples = examples(&help);
+        assert!(!examples.is_empty(), "{name} has no example");
+        for example in examples {
+            let folder = Folder::with_site();
+            let output = std::process::Command::new("sh")
+                .args(["-c", &example.replace("rehearse ", &format!("{} ", common::PROGRAM))])
+                .current_dir(&folder.0)
+                .output()
+                .unwrap();
+            assert!(output.status.success(), "{example}: {output:?}");
+        }
+    }
+}
+
+#[test]
+fn each_option_is_in_its_help() {
+    let folder = Folder::new();
+    for (command, options) in [
+        ("demo", "--write --json"),
+        ("show", "--raw --hex --json"),
+        (
+            "step",
+            "--table --key --interface --now --ignore-macs --write --raw --hex --json",
+        ),
+        (
+            "ingress",
+            "--table --key --interface --now --ignore-macs --write --raw --hex --json",
+        ),
+        (
+            "egress",
+            "--table --key --interface --now --ignore-macs --write --raw --hex --json",
+        ),
+        ("journey", "--earliest --latest --batch --raw --hex --json"),
+        ("reverse", "--write --raw --hex --json"),
+        ("expiration", "--raw --hex --json"),
+        ("plan", "-o --show --raw --hex --json"),
+        ("sign", "--plan -o --show --raw --hex --json"),
+    ] {
+        for option in options.split(' ') {
+            assert!(stored(command).contains(option), "{command} {option}");
+            let said = folder.run(&format!("{command} {option}")).err;
+            assert!(!said.contains("is not an option"), "{command} {option}: {said}");
+        }
+    }
+}

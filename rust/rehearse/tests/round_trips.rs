@@ -1,0 +1,209 @@
+//! Texts to bytes and back, over many texts and bytes that look random but are the same in every run.
+
+mod common;
+
+use common::json::parse;
+use common::{to_hex, Folder, Random};
+
+const KINDS: [&str; 4] = ["core", "parent", "child", "peer"];
+
+/// A plan as `plan --show` prints it, of any numbers, sound or not.
+fn any_plan(random: &mut Random) -> String {
+    let mut text = String::new();
+    for _ in 0..random.below(6) {
+        let key = to_hex(&random.bytes(16));
+        text += &format!("station\n    arrival {}\n    key {key}\n", random.below(65536));
+        for _ in 0..random.below(5) {
+            let most = if random.flip() { 5 } else { 65536 };
+            let number = random.below(most);
+            let state = match random.below(9) {
+                0 => format!("state {}", 8 + random.below(248)),
+                kind => format!("{} {}", KINDS[kind as usize % 4], if kind > 4 { "up" } else { "down" }),
+            };
+            text += &format!("    interface {number} {state}\n");
+        }
+    }
+    text
+}
+
+#[test]
+fn a_plan_s_text_comes_back() {
+    let (folder, mut random) = (Folder::new(), Random(1));
+    for _ in 0..200 {
+        let text = any_plan(&mut random);
+        folder.write("text", &text);
+        assert!(folder.run("plan text -o plan").status == 0, "{text}");
+        assert!(folder.run("plan text -o plan.hex").status == 0, "{text}");
+        let shown = folder.run("plan --show plan");
+        let lines = shown.out.lines().filter(|line| !line.starts_with('#'));
+        assert_eq!(lines.map(|line| format!("{line}\n")).collect::<String>(), text);
+        // A comment says that question 23 turns it down, and the status says the same.
+        assert_eq!(
+            shown.status,
+            i32::from(shown.out.starts_with("# question 23")),
+            "{}",
+            shown.out
+        );
+        assert!(!shown.out.contains("laid out otherwise"), "{}", shown.out);
+        assert_eq!(folder.run("plan --show plan.hex").out, shown.out);
+        // An empty file is a plan of no bytes.
+        if !text.is_empty() {
+            assert_eq!(folder.run("plan --show text").out, shown.out);
+        }
+    }
+}
+
+#[test]
+fn bytes_of_any_kind_are_shown_as_a_plan() {
+    let (folder, mut random) = (Folder::new(), Random(2));
+    for _ in 0..300 {
+        // Records that mostly lead to records: loops, both ways, past the end.
+        let records = 1 + random.below(12);
+        let mut plan = random.bytes(32 * records as usize);
+        for record in plan.chunks_mut(32) {
+            let [next, first] = [random.below(records + 1), random.below(records + 1)];
+            record[..2].copy_from_slice(&(next as u16).to_be_bytes());
+            record[4..6].copy_from_slice(&(first as u16).to_be_bytes());
+            let zeros = random.flip();
+            if zeros {
+                record[6..8].fill(0);
+                record[24..].fill(0);
+            }
+        }
+        plan.truncate(plan.len() - random.below(3) as usize);
+        folder.write("plan", &plan);
+        let shown = folder.run("plan --show plan --raw");
+        assert!(shown.status < 2 && shown.err.is_empty(), "{shown:?}");
+        folder.write("text", &shown.out);
+        assert_eq!(folder.run("plan text -o again").status, 0, "{}", shown.out);
+        parse(&folder.run("plan --show plan --raw --json").out);
+    }
+}
+
+#[test]
+fn a_path_s_bytes_come_back_through_its_text() {
+    let (folder, mut random) = (Folder::new(), Random(3));
+    for round in 0..300 {
+        let lengths = [(); 3].map(|()| {
+            if random.below(3) == 0 {
+                0
+            } else {
+                random.below(if round % 10 == 0 { 64 } else { 4 })
+            }
+        });
+        let hops: u64 = lengths.iter().sum();
+        let infos = lengths.iter().filter(|&&length| length != 0).count() as u64;
+        let behind = if random.flip() { random.below(100) } else { 0 };
+        let mut path = random.bytes((4 + 8 * infos + 12 * hops + behind) as usize);
+        let word = random.below(1 << 14) << 18 | lengths[0] << 12 | lengths[1] << 6 | lengths[2];
+        path[..4].copy_from_slice(&(word as u32).to_be_bytes());
+        folder.write("path", &path);
+        let shown = folder.run("sign --show path --raw");
+        assert_eq!(shown.status, i32::from(hops > 64), "{lengths:?}");
+        folder.write("text", &shown.out);
+        let signed = folder.run("sign text -o again");
+        assert_eq!((signed.status, &signed.err[..]), (0, ""), "{}", shown.out);
+        assert_eq!(to_hex(&folder.read("again")), to_hex(&path), "{}", shown.out);
+        folder.run("sign text -o again.hex");
+        assert_eq!(folder.run("sign --show again.hex").out, shown.out);
+        assert!(folder.run("show path --raw").status < 2);
+        parse(&folder.run("show path --raw --json").out);
+    }
+}
+
+/// A plan and a path text over it that is meant to pass.
+fn fitting(random: &mut Random) -> (String, String) {
+    let count = 1 + random.below(3);
+    let segments: Vec<u64> = (0..count).map(|_| 2 + random.below(4)).collect();
+    let stations = segments.iter().sum::<u64>() - segments.len() as u64 + 1;
+    // Station k is entered by 2k + 1 and left by 2k + 2.
+    let mut plan = String::new();
+    for station in 0..stations {
+        let (into, out) = (2 * station + 1, 2 * station + 2);
+        let arrival = if station == 0 { 0 } else { into };
+        plan += &format!("station\narrival {arrival}\nkey {}\n", to_hex(&random.bytes(16)));
+        plan += &format!("interface {into} child up\ninterface {out} child up\n");
+    }
+    let (mut path, mut station) = (String::new(), 0);
+    for hops in segments {
+        let cons_dir = random.flip();
+        let start = match (random.below(3), cons_dir) {
+            (0, _) => String::new(),
+            (1, true) => format!("seg_id {:04x}\n", random.below(65536)),
+            _ => format!("beta {:04x}\n", random.below(65536)),
+        };
+        path += &format!("segment\ncons_dir {}\n{start}", if cons_dir { "yes" } else { "no" });
+        path += &format!(
+            "peering {}\ntimestamp {}\n",
+            if random.flip() { "yes" } else { "no" },
+            1000 + random.below(9)
+        );
+        for hop in 0..hops {
+            let (first, last) = (station == 0, hop + 1 == hops);
+            let is_change = hop == 0 && station != 0;
+            let into = if first || is_change && random.flip() {
+                0
+            } else {
+                2 * station + 1
+            };
+            let out = if last && random.flip() { 0 } else { 2 * station + 2 };
+            path += &format!("hop in {into} out {out} exp_time {}\n", random.below(256));
+            station += u64::from(!last);
+        }
+    }
+    (plan, path)
+}
+
+/// Signing puts the MACs together as the library takes them apart, in each direction.
+#[test]
+fn a_signed_path_passes() {
+    let (folder, mut random) = (Folder::new(), Random(4));
+    for _ in 0..300 {
+        let (plan, path) = fitting(&mut random);
+        folder.write("plan.txt", &plan);
+        folder.write("path.txt", &path);
+        let signed = folder.run("sign path.txt --plan plan.txt -o path");
+        assert_eq!((signed.status, &signed.err[..]), (0, ""), "{path}");
+        let ran = folder.run("journey path plan.txt --earliest 1010 --latest 1337");
+        assert!(ran.out.starts_with("passed, number 120"), "{plan}{path}{}", ran.out);
+        // One bit of a MAC less, and it does not.
+        let mut broken = folder.read("path");
+        let infos = path.matches("segment").count();
+        let hop = random.below(path.matches("hop ").count() as u64) as usize;
+        broken[4 + 8 * infos + 12 * hop + 6 + random.below(6) as usize] ^= 1 << random.below(8);
+        folder.write("broken", broken);
+        let ran = folder.run("journey broken plan.txt --raw --earliest 1010 --latest 1337");
+        assert!(
+            ran.out.starts_with("refused, number 23"),
+            "a text is no raw plan: {}",
+            ran.out
+        );
+        folder.run("plan plan.txt -o plan");
+        let ran = folder.run("journey broken plan --raw --earliest 1010 --latest 1337");
+        assert!(
+            ran.out.starts_with("not passed, number 121") && ran.out.contains("number 12:"),
+            "{}",
+            ran.out
+        );
+    }
+}
+
+#[test]
+fn a_hop_without_a_key_is_said() {
+    let folder = Folder::with_site();
+    folder.write(
+        "short.txt",
+        "station\narrival 0\nkey 30a1f2c4b5d697e8091a2b3c4d5e6f70\n",
+    );
+    let signed = folder.run("sign good.txt --plan short.txt -o -");
+    assert_eq!(signed.status, 0);
+    assert_eq!(signed.err.lines().count(), 4);
+    assert!(signed
+        .err
+        .contains("hop 4 has no key, so that its MAC is zeros: the plan has 1 stations, and this hop is station 3's"));
+    let unsigned = folder.run("sign good.txt -o -");
+    assert!(unsigned
+        .err
+        .contains("hop 0 has no key, so that its MAC is zeros: no plan was given (--plan)"));
+    assert!(unsigned.out.ends_with("000000000000\n"));
+}
