@@ -171,7 +171,7 @@ fn of_refusal(refusal: Refusal) -> Answer {
 /// The values of a refusal by the crate's names, in the scope document's order.
 fn refusal_values(error: StandardRoutingError) -> Vec<(&'static str, Json)> {
     use StandardRoutingError as Error;
-    let hop = |hop_index: usize| ("hop_index", Json::number(hop_index as u64));
+    let hop = |hop_index: usize| ("hop_index", Json::number(hop_index));
     let mac = |name, mac: [u8; 6]| (name, Json::text(crate::hex::to_hex(&mac)));
     match error {
         Error::UnsoundTable | Error::MetaTooShort | Error::DataTooShort | Error::TooManyHops => vec![],
@@ -179,10 +179,9 @@ fn refusal_values(error: StandardRoutingError) -> Vec<(&'static str, Json)> {
         Error::AdvanceFailed(AdvanceError::HopOutOfBounds(index) | AdvanceError::InfoOutOfBounds(index)) => {
             vec![("index", Json::number(index))]
         }
-        Error::AdvanceFailed(AdvanceError::InvalidSegmentIndex { expected, actual }) => vec![
-            ("expected", Json::number(expected as u64)),
-            ("actual", Json::number(actual as u64)),
-        ],
+        Error::AdvanceFailed(AdvanceError::InvalidSegmentIndex { expected, actual }) => {
+            vec![("expected", Json::number(expected)), ("actual", Json::number(actual))]
+        }
         Error::InvalidIngressInterface {
             hop_index,
             expected,

@@ -31,7 +31,7 @@ fn main() -> ExitCode {
     let words: Vec<_> = std::env::args_os().skip(1).collect();
     let said = commands::run(&words, &files::Files::on_disk());
     let status = match output::print(&said.out) {
-        Ok(()) => said.status,
+        Ok(_) => said.status,
         Err(mistake) => {
             output::complain(&format!("rehearse: {}\n", mistake.0));
             2

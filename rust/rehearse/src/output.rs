@@ -2,14 +2,17 @@
 
 use crate::mistake::{mistake, Checked};
 use std::io::{self, ErrorKind, IsTerminal, Write};
+use std::time::{Duration, Instant};
 
-pub fn print(text: &str) -> Checked<()> {
+/// Writes to standard output. Gives whether there is still a reader.
+pub fn print(text: &str) -> Checked<bool> {
     let mut out = io::stdout().lock();
     match out.write_all(text.as_bytes()).and_then(|()| out.flush()) {
-        Err(error) if error.kind() != ErrorKind::BrokenPipe => mistake(format!(
+        Ok(()) => Ok(true),
+        Err(error) if error.kind() == ErrorKind::BrokenPipe => Ok(false),
+        Err(error) => mistake(format!(
             "standard output can't be written ({error}): free some space or name another file"
         )),
-        _ => Ok(()),
     }
 }
 
@@ -18,28 +21,37 @@ pub fn complain(text: &str) {
     let _ = io::stderr().lock().write_all(text.as_bytes());
 }
 
-/// How far a long list has come, shown on a terminal only.
+/// How far a long list has come, shown on a terminal only, and ten times a second at most.
 pub struct Progress {
-    shown: bool,
     of: usize,
+    is_terminal: bool,
+    last: Instant,
+    is_shown: bool,
 }
 
 impl Progress {
     pub fn of(of: usize) -> Progress {
-        let shown = io::stderr().is_terminal();
-        Progress { shown, of }
-    }
-
-    pub fn at(&self, done: usize) {
-        if self.shown {
-            complain(&format!("\r\x1b[K{done} of {}", self.of));
+        Progress {
+            of,
+            is_terminal: io::stderr().is_terminal(),
+            last: Instant::now(),
+            is_shown: false,
         }
     }
 
-    /// Takes the line away, before something else is written.
-    pub fn clear(&self) {
-        if self.shown {
+    pub fn at(&mut self, done: usize) {
+        if self.is_terminal && self.last.elapsed() >= Duration::from_millis(100) {
+            complain(&format!("\r\x1b[K{done} of {}", self.of));
+            self.last = Instant::now();
+            self.is_shown = true;
+        }
+    }
+
+    /// Takes the line away, before something else is written on the screen.
+    pub fn clear(&mut self) {
+        if self.is_shown {
             complain("\r\x1b[K");
+            self.is_shown = false;
         }
     }
 }

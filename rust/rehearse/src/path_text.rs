@@ -102,6 +102,9 @@ impl Draft {
                 let time = dates::time(&line.words[1..].join(" "), &line.place())?;
                 once(&mut self.timestamp, time, line, "`timestamp`")
             }
+            ("hop", true) if self.hops.len() == 63 => {
+                line.wrong("this is hop 64 of the segment, and its length can't say more than 63")
+            }
             ("hop", true) => {
                 self.hops.push(hop(line)?);
                 Ok(())
@@ -121,13 +124,6 @@ impl Draft {
         let lacks = |what: &str| mistake(format!("{of}, line {}: this segment has no {what}", self.line));
         if self.hops.is_empty() {
             return lacks("hop: add lines as `hop in 0 out 1 lasts 6h`, or write `segment none` for an empty one");
-        }
-        if self.hops.len() > 63 {
-            return mistake(format!(
-                "{of}, line {}: this segment has {} hops, and its length can't say more than 63",
-                self.line,
-                self.hops.len()
-            ));
         }
         match (self.cons_dir, self.timestamp) {
             (None, _) => {

@@ -41,7 +41,8 @@ impl Report {
     }
 
     pub fn line(&mut self, name: &str, text: impl AsRef<str>) {
-        self.text += &format!("    {name:<12} {}\n", text.as_ref());
+        self.text += format!("    {name:<12} {}", text.as_ref()).trim_end();
+        self.text.push('\n');
     }
 
     pub fn lines(&mut self, lines: &[(String, String)]) {
@@ -73,10 +74,17 @@ impl Report {
             self.text += &format!("        byte {at:<4} {before} -> {after}  {field}\n");
         }
         let (header, behind) = Header(after).parts();
-        self.line("path", to_hex(header));
+        self.line(
+            "path",
+            if header.is_empty() {
+                "none".into()
+            } else {
+                to_hex(header)
+            },
+        );
         let list = changes.into_iter().map(|change| {
             Json::Object(vec![
-                ("at", Json::number(change.at as u64)),
+                ("at", Json::number(change.at)),
                 ("field", Json::text(change.field)),
                 ("before", Json::text(to_hex(&change.before))),
                 ("after", Json::text(to_hex(&change.after))),
@@ -84,7 +92,7 @@ impl Report {
         });
         self.member("bytes_changed", Json::List(list.collect()));
         self.member("path", Json::text(to_hex(header)));
-        self.member("bytes_behind", Json::number(behind.len() as u64));
+        self.member("bytes_behind", Json::number(behind.len()));
     }
 }
 

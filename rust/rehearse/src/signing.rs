@@ -3,6 +3,7 @@
 use crate::hop_text::HopText;
 use crate::mistake::{mistake, Checked};
 use crate::path_text::{PathText, SegmentText, Start};
+use crate::report::counted;
 use standard_path::{calculate_hop_mac, ForwardingKey};
 
 pub struct Signed {
@@ -110,8 +111,8 @@ impl Signer<'_> {
             let why = match self.keys {
                 None => "no plan was given (--plan)".to_string(),
                 Some(keys) => format!(
-                    "the plan has {} stations, and this hop is station {station}'s",
-                    keys.len()
+                    "the plan has {}, and this hop is for station {station}, counted from 0",
+                    counted(keys.len(), "station")
                 ),
             };
             self.notes

@@ -33,7 +33,7 @@ fn folder() -> Folder {
     folder
 }
 
-const CALLS: [&str; 22] = [
+const CALLS: [&str; 23] = [
     "show good.path",
     "step good.path HALL_A --write next.path",
     "step good.path HALL_A --ignore-macs",
@@ -41,7 +41,8 @@ const CALLS: [&str; 22] = [
     "egress good.path --table 1:parent:up --key 30a1f2c4b5d697e8091a2b3c4d5e6f70 --interface 1 --now 1794809100",
     "egress ask.path --table 1:parent:up --key 30a1f2c4b5d697e8091a2b3c4d5e6f70 --interface 1 --now 1794809100",
     "step ask.path HALL_A",
-    "step answer.path --table 11:child:up,12:child:up --key 31b2e3d4c5f6a7980a1b2c3d4e5f6071 --interface 11 --now 1794809100 --ignore-macs",
+    "step answer.path HALL_A --ignore-macs --write answer-core.path",
+    "step answer-core.path --table 11:child:up,12:child:up --key 31b2e3d4c5f6a7980a1b2c3d4e5f6071 --interface 11 --now 1794809100 --ignore-macs",
     "step next.path --table 11:child:up,12:child:up,13:child:down --key 31b2e3d4c5f6a7980a1b2c3d4e5f6071 --interface 11 --now 1794809100",
     "step good.path --table 1:parent:down --key 30a1f2c4b5d697e8091a2b3c4d5e6f70 --interface 0 --now 1794809100",
     "reverse good.path",

@@ -25,7 +25,7 @@ fn stored(name: &str) -> String {
 #[test]
 fn help_is_given_on_every_level() {
     let folder = Folder::new();
-    for call in ["--help", "-h", "help", "help nothing"] {
+    for call in ["--help", "-h", "help"] {
         let ran = folder.run(call);
         assert_eq!(
             (ran.status, ran.out, ran.err),

@@ -48,6 +48,7 @@ fn mistakes_in_a_call() {
         "",
         "shwo",
         "--shwo",
+        "help shwo",
         "show",
         "show good.path late.path",
         "show good.path --jsno",

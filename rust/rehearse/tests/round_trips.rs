@@ -200,10 +200,41 @@ fn a_hop_without_a_key_is_said() {
     assert_eq!(signed.err.lines().count(), 4);
     assert!(signed
         .err
-        .contains("hop 4 has no key, so that its MAC is zeros: the plan has 1 stations, and this hop is station 3's"));
+        .contains("hop 4 has no key, so that its MAC is zeros: the plan has 1 station, and this hop is for station 3, counted from 0"));
     let unsigned = folder.run("sign good.txt -o -");
     assert!(unsigned
         .err
         .contains("hop 0 has no key, so that its MAC is zeros: no plan was given (--plan)"));
     assert!(unsigned.out.ends_with("000000000000\n"));
+}
+
+/// Texts with letters lost, doubled or changed are taken or named as a mistake.
+#[test]
+fn texts_of_any_kind_are_read() {
+    let (folder, mut random) = (Folder::with_site(), Random(5));
+    let mut taken = [0, 0];
+    for (name, call) in [
+        ("plan.txt", "plan text -o out"),
+        ("good.txt", "sign text --plan site.plan -o out"),
+    ] {
+        let original = folder.read(name);
+        for _ in 0..300 {
+            let mut text = original.clone();
+            for _ in 0..1 + random.below(3) {
+                let at = random.below(text.len() as u64) as usize;
+                match random.below(4) {
+                    0 => drop(text.remove(at)),
+                    1 => text.insert(at, text[at]),
+                    2 => text[at] = random.below(128) as u8,
+                    _ => text.truncate(at.max(1)),
+                }
+            }
+            folder.write("text", &text);
+            let ran = folder.run(call);
+            assert!(ran.status == 0 || ran.status == 2, "{ran:?}");
+            assert!(ran.status == 0 || ran.err.starts_with("rehearse: text"), "{ran:?}");
+            taken[usize::from(ran.status == 0)] += 1;
+        }
+    }
+    assert!(taken[0] > 50 && taken[1] > 50, "{taken:?}");
 }

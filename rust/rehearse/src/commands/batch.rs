@@ -7,9 +7,10 @@ use crate::files::{shown, Files};
 use crate::json::Json;
 use crate::mistake::{mistake, Checked};
 use crate::output::{self, Progress};
-use crate::report::Report;
+use crate::report::{counted, Report};
 use std::collections::BTreeMap;
 use std::ffi::OsStr;
+use std::io::{self, IsTerminal};
 
 /// A journey of the list.
 struct Entry<'a> {
@@ -40,14 +41,20 @@ pub fn run(arguments: &Arguments, files: &Files) -> Checked<Report> {
     if entries.is_empty() {
         return mistake(format!("{of} names no journey: write a path and a plan on each line"));
     }
-    let progress = Progress::of(entries.len());
+    let mut progress = Progress::of(entries.len());
+    let is_screen = io::stdout().is_terminal();
     let mut summary = Summary::default();
     for (done, entry) in entries.iter().enumerate() {
         progress.at(done);
         let line = one(files, entry, &between, arguments.flag("--json"), &mut summary);
-        progress.clear();
-        output::print(&line)?;
+        if is_screen {
+            progress.clear();
+        }
+        if !output::print(&line)? {
+            break;
+        }
     }
+    progress.clear();
     Ok(summary.report(entries.len()))
 }
 
@@ -99,7 +106,7 @@ fn one(files: &Files, entry: &Entry<'_>, between: &Between, as_json: bool, summa
         }
     };
     if as_json {
-        json.push(("line", Json::number(line as u64)));
+        json.push(("line", Json::number(line)));
         json.push(("path_file", Json::text(path)));
         json.push(("plan_file", Json::text(plan)));
         return format!("{}\n", Json::Object(json));
@@ -134,14 +141,17 @@ impl Summary {
             format!(" ({})", numbers.join(", "))
         };
         let text = format!(
-            "{journeys} journeys: {} passed, {} not passed, {refused} refused{by}, {} not read\n",
-            self.passed, self.not_passed, self.not_read
+            "{}: {} passed, {} not passed, {refused} refused{by}, {} not read\n",
+            counted(journeys, "journey"),
+            self.passed,
+            self.not_passed,
+            self.not_read
         );
         let mut report = Report::done("journey", "summary", text);
         let by_number = self.refused.iter().map(|(&number, &count)| {
             Json::Object(vec![("number", Json::number(number)), ("count", Json::Number(count))])
         });
-        report.member("journeys", Json::number(journeys as u64));
+        report.member("journeys", Json::number(journeys));
         report.member("passed", Json::Number(self.passed));
         report.member("not_passed", Json::Number(self.not_passed));
         report.member("refused", Json::Number(refused));

@@ -77,7 +77,7 @@ pub fn check(files: &Files, path: &OsStr, plan: &OsStr, between: &Between) -> Ch
         format!("from {} to {}", dates::both(earliest), dates::both(latest)),
     );
     for (name, value) in [("hops", hops), ("infos", infos), ("stations", stations.len())] {
-        report.member(name, Json::number(value as u64));
+        report.member(name, Json::number(value));
     }
     report.member("earliest", Json::number(earliest));
     report.member("latest", Json::number(latest));
@@ -108,10 +108,7 @@ fn where_it_stops(path: &[u8], stations: &[plan::Station], readings: [u32; 2], r
 }
 
 fn stop_json(station: usize, reading: u32, answer: &Answer) -> Json {
-    let mut members = vec![
-        ("station", Json::number(station as u64)),
-        ("reading", Json::number(reading)),
-    ];
+    let mut members = vec![("station", Json::number(station)), ("reading", Json::number(reading))];
     members.extend(answer.json("step").into_iter().filter(|(name, _)| *name != "command"));
     Json::Object(members)
 }

@@ -88,36 +88,34 @@ const HELP: &str = include_str!("../../help/rehearse.txt");
 
 /// Runs one call.
 pub fn run(words: &[OsString], files: &Files) -> Said {
-    let first = words.first().and_then(|word| word.to_str());
-    let named = |name: Option<&str>| COMMANDS.iter().find(|command| Some(command.form.command) == name);
-    match first {
-        None => return wrong(None, "say what to do, as `rehearse demo`: see `rehearse --help`", false),
-        Some("--help" | "-h") => return said(HELP),
-        Some("--version") => return said(concat!("rehearse ", env!("CARGO_PKG_VERSION"), "\n")),
-        Some("help") => {
-            let about = words.get(1).and_then(|word| word.to_str());
-            return said(named(about).map_or(HELP, |command| command.help));
-        }
-        _ => {}
-    }
-    let Some(command) = named(first) else {
-        let word = words[0].to_string_lossy();
+    let as_json = words.iter().any(|word| word == "--json");
+    let Some(first) = words.first() else {
         return wrong(
             None,
-            &format!("`{word}` is not a command of rehearse: see `rehearse --help`"),
-            false,
+            "say what to do, as `rehearse demo`: see `rehearse --help`",
+            as_json,
         );
     };
+    let name = match first.to_str() {
+        Some("--help" | "-h") => return said(HELP),
+        Some("--version") => return said(concat!("rehearse ", env!("CARGO_PKG_VERSION"), "\n")),
+        Some("help") if words.len() == 1 => return said(HELP),
+        Some("help") => &words[1],
+        _ => first,
+    };
+    let Some(command) = COMMANDS.iter().find(|command| name == command.form.command) else {
+        let word = name.to_string_lossy();
+        let sentence = format!("`{word}` is not a command of rehearse: see `rehearse --help`");
+        return wrong(None, &sentence, as_json);
+    };
     let words = &words[1..];
-    let before_end = words.iter().take_while(|word| *word != "--");
-    if before_end.clone().any(|word| word == "--help" || word == "-h") {
+    let mut options = words.iter().take_while(|word| *word != "--");
+    if first == "help" || options.any(|word| word == "--help" || word == "-h") {
         return said(command.help);
     }
-    let name = command.form.command;
-    let as_json = before_end.clone().any(|word| word == "--json");
     match Arguments::read(command.form, words).and_then(|arguments| (command.run)(&arguments, files)) {
         Ok(report) => finished(report, as_json),
-        Err(mistake) => wrong(Some(name), &mistake.0, as_json),
+        Err(mistake) => wrong(Some(command.form.command), &mistake.0, as_json),
     }
 }
 

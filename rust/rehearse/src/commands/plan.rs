@@ -47,7 +47,7 @@ fn write(arguments: &Arguments, files: &Files) -> Checked<Report> {
     if !fits {
         report.notes.push(turned_down());
     }
-    report.member("stations", Json::number(stations.len() as u64));
+    report.member("stations", Json::number(stations.len()));
     report.member("fits_some_path", Json::Flag(fits));
     report.member("plan", Json::text(hex::to_hex(&bytes)));
     write_made(arguments, files, &bytes, &hex::lines(&bytes, []), &mut report)?;
@@ -81,7 +81,7 @@ fn show(arguments: &Arguments, files: &Files, name: &OsStr) -> Checked<Report> {
     let comments: String = remarks.iter().map(|remark| format!("# {remark}\n")).collect();
     let text = plan::to_text(&read.stations);
     report.text = comments + &text;
-    report.member("stations", Json::number(read.stations.len() as u64));
+    report.member("stations", Json::number(read.stations.len()));
     report.member("fits_some_path", Json::Flag(fits));
     report.member("remarks", Json::List(remarks.into_iter().map(Json::Text).collect()));
     report.member("text", Json::text(text));

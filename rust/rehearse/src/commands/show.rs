@@ -41,7 +41,7 @@ fn too_short(path: &[u8], error: HeaderError) -> Report {
     let mut report = Report::of("show", &answers::of_header_error(error));
     let bytes = if path.is_empty() { "none".into() } else { to_hex(path) };
     report.line("bytes read", bytes);
-    report.member("bytes_read", Json::number(path.len() as u64));
+    report.member("bytes_read", Json::number(path.len()));
     report
 }
 
@@ -92,13 +92,13 @@ fn meta(header: Header<'_>, report: &mut Report) {
     report.member("reserved", Json::number(reserved));
     report.member(
         "lengths",
-        Json::List(header.lengths().map(|length| Json::number(length as u64)).into()),
+        Json::List(header.lengths().map(|length| Json::number(length)).into()),
     );
-    report.member("infos", Json::number(infos as u64));
-    report.member("hops", Json::number(hops as u64));
-    report.member("ends_before_byte", Json::number(header.size() as u64));
-    report.member("bytes_read", Json::number(header.0.len() as u64));
-    report.member("bytes_behind", Json::number(header.parts().1.len() as u64));
+    report.member("infos", Json::number(infos));
+    report.member("hops", Json::number(hops));
+    report.member("ends_before_byte", Json::number(header.size()));
+    report.member("bytes_read", Json::number(header.0.len()));
+    report.member("bytes_behind", Json::number(header.parts().1.len()));
     report.member("expiration", expires.map_or(Json::Null, Json::number));
 }
 
@@ -155,8 +155,8 @@ fn show_segment(header: Header<'_>, segment: &Segment, report: &mut Report) -> J
         shown.push(show_hop(header, index, &info, &hop, report));
     }
     Json::Object(vec![
-        ("place", Json::number(place as u64)),
-        ("info_field", Json::number(index as u64)),
+        ("place", Json::number(place)),
+        ("info_field", Json::number(index)),
         ("cons_dir", Json::Flag(info.cons_dir())),
         ("peering", Json::Flag(info.peering())),
         ("seg_id", Json::text(format!("{:04x}", info.seg_id()))),
@@ -193,7 +193,7 @@ fn show_hop(header: Header<'_>, index: usize, info: &Info, hop: &Hop, report: &m
         format!("MAC {mac}; reserved flag bits {flags:02x}; bytes {at} to {}", at + 11),
     );
     Json::Object(vec![
-        ("index", Json::number(index as u64)),
+        ("index", Json::number(index)),
         ("in", Json::number(into)),
         ("out", Json::number(out)),
         ("exp_time", Json::number(hop.exp_time())),

@@ -58,9 +58,9 @@ fn write(arguments: &Arguments, files: &Files) -> Checked<Report> {
         counted(header.infos(), "segment"),
         counted(signed.worked_out, "MAC")
     );
-    report.member("hops", Json::number(header.hops() as u64));
-    report.member("infos", Json::number(header.infos() as u64));
-    report.member("macs_worked_out", Json::number(signed.worked_out as u64));
+    report.member("hops", Json::number(header.hops()));
+    report.member("infos", Json::number(header.infos()));
+    report.member("macs_worked_out", Json::number(signed.worked_out));
     report.member("path", Json::text(hex::to_hex(&signed.bytes)));
     report.notes = signed.notes;
     write_made(arguments, files, &signed.bytes, &path_lines(&signed.bytes), &mut report)?;
