@@ -25,7 +25,7 @@ pub fn complain(text: &str) {
 pub struct Progress {
     of: usize,
     is_terminal: bool,
-    last: Instant,
+    last: Option<Instant>,
     is_shown: bool,
 }
 
@@ -34,15 +34,16 @@ impl Progress {
         Progress {
             of,
             is_terminal: io::stderr().is_terminal(),
-            last: Instant::now(),
+            last: None,
             is_shown: false,
         }
     }
 
     pub fn at(&mut self, done: usize) {
-        if self.is_terminal && self.last.elapsed() >= Duration::from_millis(100) {
+        let is_due = |last: Instant| last.elapsed() >= Duration::from_millis(100);
+        if self.is_terminal && self.last.is_none_or(is_due) {
             complain(&format!("\r\x1b[K{done} of {}", self.of));
-            self.last = Instant::now();
+            self.last = Some(Instant::now());
             self.is_shown = true;
         }
     }

@@ -90,10 +90,7 @@ fn meta(header: Header<'_>, report: &mut Report) {
     report.member("curr_inf", Json::number(curr_inf));
     report.member("curr_hf", Json::number(curr_hf));
     report.member("reserved", Json::number(reserved));
-    report.member(
-        "lengths",
-        Json::List(header.lengths().map(|length| Json::number(length)).into()),
-    );
+    report.member("lengths", Json::List(header.lengths().map(Json::number).into()));
     report.member("infos", Json::number(infos));
     report.member("hops", Json::number(hops));
     report.member("ends_before_byte", Json::number(header.size()));
