@@ -1,6 +1,7 @@
 //! The text form of a path header, as people write it for `rehearse sign`.
 
 use crate::dates;
+use crate::hex::from_hex;
 use crate::hop_text::{hop, reserved_flags, HopText};
 use crate::lines::{lines, once, Line};
 use crate::mistake::{mistake, Checked};
@@ -80,23 +81,14 @@ impl Draft {
             }
             ("cons_dir", true) => once(&mut self.cons_dir, yes_or_no(line)?, line, "`cons_dir`"),
             ("peering", true) => once(&mut self.peering, yes_or_no(line)?, line, "`peering`"),
-            ("seg_id", true) => {
-                let bytes = line.hex(line.only("seg_id 1234")?)?;
-                once(
-                    &mut self.start,
-                    Start::SegId(u16::from_be_bytes(bytes)),
-                    line,
-                    "`seg_id` or `beta`",
-                )
-            }
-            ("beta", true) => {
-                let bytes = line.hex(line.only("beta 1234")?)?;
-                once(
-                    &mut self.start,
-                    Start::Beta(u16::from_be_bytes(bytes)),
-                    line,
-                    "`seg_id` or `beta`",
-                )
+            (word @ ("seg_id" | "beta"), true) => {
+                let number = u16::from_be_bytes(line.hex(line.only(&format!("{word} 1234"))?)?);
+                let start = if word == "beta" {
+                    Start::Beta(number)
+                } else {
+                    Start::SegId(number)
+                };
+                once(&mut self.start, start, line, "`seg_id` or `beta`")
             }
             ("timestamp", true) => {
                 let time = dates::time(&line.words[1..].join(" "), &line.place())?;
@@ -143,60 +135,81 @@ impl Draft {
     }
 }
 
+// ---- the whole text
+
 /// The path that a text describes. Whether it is a good one is asked by the library, not here.
 pub fn from_text(text: &str, of: &str) -> Checked<PathText> {
-    let (mut path, mut segments, mut behind) = (None, Vec::new(), Vec::new());
-    let mut current: Option<Draft> = None;
-    let finish = |current: &mut Option<Draft>, path: &mut Option<Draft>, segments: &mut Vec<_>| -> Checked<()> {
-        match current.take() {
-            None => {}
-            Some(draft) if draft.is_segment => segments.push(Some(draft.segment(of)?)),
-            Some(draft) => *path = Some(draft),
-        }
-        Ok(())
-    };
+    let mut reader = Reader::default();
     for line in lines(text, of) {
-        let is_start = matches!(line.words[0], "path" | "segment" | "behind");
-        if is_start {
-            finish(&mut current, &mut path, &mut segments)?;
-        }
-        let is_full = segments.len() == 3;
-        match (&line.words[..], &mut current) {
-            (["path"], _) if path.is_some() || !segments.is_empty() => {
-                return line.wrong("`path` stands once, before the first segment")
-            }
-            (["segment", ..], _) if is_full => {
-                return line.wrong("a path has at most three segments: leave this one out")
-            }
-            (["segment", "none"], _) => segments.push(None),
-            ([word @ ("path" | "segment")], _) => {
-                current = Some(Draft {
-                    line: line.number,
-                    is_segment: *word == "segment",
-                    ..Draft::default()
-                });
-            }
-            (["behind", words @ ..], _) => {
-                behind.extend(crate::hex::from_hex(words.concat().as_bytes(), &line.place())?);
-            }
-            ([word @ ("path" | "segment"), ..], _) => {
-                return line.wrong(format!("write `{word}` alone; a name goes behind a #"))
-            }
-            (_, Some(draft)) => draft.read(&line)?,
-            (_, None) => {
-                return line.wrong("a path text starts with the word `path` or `segment` on a line of its own")
-            }
-        }
+        reader.read(&line)?;
     }
-    finish(&mut current, &mut path, &mut segments)?;
-    let path = path.unwrap_or_default();
+    reader.end_block(of)?;
+    let path = reader.path.unwrap_or_default();
     Ok(PathText {
         curr_inf: path.curr_inf.unwrap_or(0) as u8,
         curr_hf: path.curr_hf.unwrap_or(0) as u8,
         reserved: path.reserved.unwrap_or(0),
-        segments,
-        behind,
+        segments: reader.segments,
+        behind: reader.behind,
     })
+}
+
+#[derive(Default)]
+struct Reader {
+    path: Option<Draft>,
+    segments: Vec<Option<SegmentText>>,
+    behind: Vec<u8>,
+    /// The block that is being read.
+    block: Option<Draft>,
+}
+
+impl Reader {
+    fn read(&mut self, line: &Line<'_>) -> Checked<()> {
+        if matches!(line.words[0], "path" | "segment" | "behind") {
+            self.end_block(line.of)?;
+        }
+        match line.words[..] {
+            ["path"] if self.path.is_some() || !self.segments.is_empty() => {
+                line.wrong("`path` stands once, before the first segment")
+            }
+            ["segment", ..] if self.segments.len() == 3 => {
+                line.wrong("a path has at most three segments: leave this one out")
+            }
+            ["segment", "none"] => {
+                self.segments.push(None);
+                Ok(())
+            }
+            [word @ ("path" | "segment")] => {
+                self.block = Some(Draft {
+                    line: line.number,
+                    is_segment: word == "segment",
+                    ..Draft::default()
+                });
+                Ok(())
+            }
+            [word @ ("path" | "segment"), ..] => line.wrong(format!("write `{word}` alone; a name goes behind a #")),
+            ["behind", ref words @ ..] => {
+                self.behind.extend(from_hex(words.concat().as_bytes(), &line.place())?);
+                Ok(())
+            }
+            _ => match &mut self.block {
+                Some(draft) => draft.read(line),
+                None => line.wrong(format!(
+                    "write `path` or `segment` on a line of its own before `{}`",
+                    line.words[0]
+                )),
+            },
+        }
+    }
+
+    fn end_block(&mut self, of: &str) -> Checked<()> {
+        match self.block.take() {
+            None => {}
+            Some(draft) if draft.is_segment => self.segments.push(Some(draft.segment(of)?)),
+            Some(draft) => self.path = Some(draft),
+        }
+        Ok(())
+    }
 }
 
 // ---- lines

@@ -10,7 +10,7 @@ pub struct Signed {
     pub bytes: Vec<u8>,
     /// How many MACs were worked out.
     pub worked_out: usize,
-    /// What could not be signed, a sentence each.
+    /// Each hop that could not be signed, in a sentence.
     pub notes: Vec<String>,
 }
 
@@ -23,7 +23,7 @@ pub fn sign(path: &PathText, keys: Option<&[ForwardingKey]>) -> Checked<Signed> 
         hop: 0,
         station: 0,
         worked_out: 0,
-        notes: Vec::new(),
+        unsigned: Vec::new(),
     };
     let (mut infos, mut hops) = (Vec::new(), Vec::new());
     for (place, segment) in path.segments.iter().enumerate() {
@@ -38,10 +38,11 @@ pub fn sign(path: &PathText, keys: Option<&[ForwardingKey]>) -> Checked<Signed> 
     let word = u32::from(path.curr_inf) << 30 | u32::from(path.curr_hf) << 24 | u32::from(path.reserved) << 18;
     let word = word | lengths[0] << 12 | lengths[1] << 6 | lengths[2];
     let bytes = [&word.to_be_bytes()[..], &infos, &hops, &path.behind].concat();
+    signer.unsigned.sort();
     Ok(Signed {
         bytes,
         worked_out: signer.worked_out,
-        notes: signer.notes,
+        notes: signer.unsigned.into_iter().map(|(_, note)| note).collect(),
     })
 }
 
@@ -51,7 +52,8 @@ struct Signer<'a> {
     hop: usize,
     station: usize,
     worked_out: usize,
-    notes: Vec<String>,
+    /// The hops without a key, each with a sentence.
+    unsigned: Vec<(usize, String)>,
 }
 
 impl Signer<'_> {
@@ -115,8 +117,8 @@ impl Signer<'_> {
                     counted(keys.len(), "station")
                 ),
             };
-            self.notes
-                .push(format!("hop {index} has no key, so that its MAC is zeros: {why}"));
+            let note = format!("hop {index} has no key, so that its MAC is zeros: {why}");
+            self.unsigned.push((index, note));
             return [0; 6];
         };
         self.worked_out += 1;
