@@ -62,7 +62,7 @@ pub fn time(text: &str, of: &str) -> Checked<u32> {
     };
     u32::try_from(seconds).or_else(|_| {
         mistake(format!(
-            "{of}: `{text}` lies behind 2106-02-07T06:28:15Z, the last second that a header can hold"
+            "{of}: `{text}` is later than 2106-02-07T06:28:15Z, the last second that a header can hold"
         ))
     })
 }

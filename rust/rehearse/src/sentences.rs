@@ -62,7 +62,7 @@ const QUESTIONS: [Question; 25] = [
     ),
     question(
         "Timestamp at most now?",
-        "The segment's timestamp lies behind the reading of the clock.",
+        "The segment's timestamp is later than the reading of the clock.",
         "Check the clock, or take a timestamp that is no later than the earliest reading and sign again.",
     ),
     question(

@@ -5,6 +5,7 @@ mod common;
 use common::json::{parse, Value};
 use common::{expect, to_hex, Folder};
 
+const GUIDE: &str = include_str!("../../../docs/GUIDE.md");
 const HALL_A: &str = "--table 1:parent:up --key 30a1f2c4b5d697e8091a2b3c4d5e6f70 --interface 0 --now 1794809100";
 const READINGS: &str = "--earliest 1794809100 --latest 2026-11-16T11:00:00Z";
 
@@ -94,9 +95,24 @@ fn each_answer_is_one_json_object_with_the_same_names() {
         if is_mistake {
             assert_eq!(ran.err, format!("rehearse: {}\n", answer.text("sentence")));
         }
+        names(&answer, &mut |name| {
+            assert!(GUIDE.contains(&format!("`{name}`")), "the guide lacks `{name}`")
+        });
         all += &ran.out;
     }
     expect("answers.json", &all);
+}
+
+/// Goes through the names of a value and of all values in it.
+fn names(value: &Value, name: &mut impl FnMut(&str)) {
+    match value {
+        Value::List(items) => items.iter().for_each(|item| names(item, name)),
+        Value::Object(members) => members.iter().for_each(|(member, value)| {
+            name(member);
+            names(value, name);
+        }),
+        _ => {}
+    }
 }
 
 #[test]
@@ -161,6 +177,29 @@ fn inputs_are_the_same_in_every_form() {
 }
 
 #[test]
+fn a_file_is_written_raw_or_as_hex_text_by_its_name() {
+    let folder = folder();
+    let path = folder.read("good.path");
+    folder.run("sign good.txt --plan plan.txt -o good.hex");
+    let text = String::from_utf8(folder.read("good.hex")).unwrap();
+    let sizes: Vec<usize> = text.lines().map(|line| line.len() / 2).collect();
+    assert_eq!(sizes, [4, 8, 8, 12, 12, 12, 12, 12]);
+    assert_eq!(text.replace('\n', ""), to_hex(&path));
+    assert_eq!(folder.run("sign good.txt --plan plan.txt -o -").out, text);
+
+    folder.run("plan plan.txt -o plan.hex");
+    let text = String::from_utf8(folder.read("plan.hex")).unwrap();
+    assert!(text.lines().all(|line| line.len() == 64));
+    assert_eq!(text.replace('\n', ""), to_hex(&folder.read("site.plan")));
+    assert_eq!(folder.run("plan plan.txt -o -").out, text);
+
+    folder.run("reverse good.path --write back");
+    folder.run("reverse good.path --write back.hex");
+    let text = String::from_utf8(folder.read("back.hex")).unwrap();
+    assert_eq!(text.replace('\n', ""), to_hex(&folder.read("back")));
+}
+
+#[test]
 fn a_list_of_journeys_has_a_line_each_and_a_summary() {
     let folder = folder();
     let mut said = folder.transcript(&format!("journey --batch list {READINGS}"));
@@ -182,6 +221,11 @@ fn a_list_of_journeys_has_a_line_each_and_a_summary() {
             assert_eq!(summary.number(count), Some(counted as u64), "{list} {count}");
         }
         assert!(journeys.iter().all(|journey| journey.number("line").is_some()));
+        for answer in &answers {
+            names(answer, &mut |name| {
+                assert!(GUIDE.contains(&format!("`{name}`")), "the guide lacks `{name}`")
+            });
+        }
     }
 }
 

@@ -96,13 +96,11 @@ fn one(files: &Files, entry: &Entry<'_>, between: &Between, as_json: bool, summa
         Ok((answer, report)) => (summary.count(&answer), String::new(), report.json),
         Err(mistake) => {
             summary.not_read += 1;
-            let json = vec![
-                ("command", Json::text("journey")),
-                ("answer", Json::text("mistake")),
-                ("number", Json::Null),
-                ("sentence", Json::text(&mistake.0)),
-            ];
-            ("not read".into(), format!(": {}", mistake.0), json)
+            (
+                "not read".into(),
+                format!(": {}", mistake.0),
+                mistake.json(Some("journey")),
+            )
         }
     };
     if as_json {

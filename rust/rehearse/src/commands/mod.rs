@@ -14,7 +14,7 @@ use crate::arguments::{Arguments, Form};
 use crate::files::{Files, Spelling};
 use crate::hex;
 use crate::json::Json;
-use crate::mistake::Checked;
+use crate::mistake::{Checked, Mistake};
 use crate::report::Report;
 use std::ffi::{OsStr, OsString};
 
@@ -90,11 +90,8 @@ const HELP: &str = include_str!("../../help/rehearse.txt");
 pub fn run(words: &[OsString], files: &Files) -> Said {
     let as_json = words.iter().any(|word| word == "--json");
     let Some(first) = words.first() else {
-        return wrong(
-            None,
-            "say what to do, as `rehearse demo`: see `rehearse --help`",
-            as_json,
-        );
+        let sentence = "say what to do, as `rehearse demo`: see `rehearse --help`";
+        return wrong(None, &Mistake(sentence.into()), as_json);
     };
     let name = match first.to_str() {
         Some("--help" | "-h") => return said(HELP),
@@ -106,7 +103,7 @@ pub fn run(words: &[OsString], files: &Files) -> Said {
     let Some(command) = COMMANDS.iter().find(|command| name == command.form.command) else {
         let word = name.to_string_lossy();
         let sentence = format!("`{word}` is not a command of rehearse: see `rehearse --help`");
-        return wrong(None, &sentence, as_json);
+        return wrong(None, &Mistake(sentence), as_json);
     };
     let words = &words[1..];
     let mut options = words.iter().take_while(|word| *word != "--");
@@ -115,7 +112,7 @@ pub fn run(words: &[OsString], files: &Files) -> Said {
     }
     match Arguments::read(command.form, words).and_then(|arguments| (command.run)(&arguments, files)) {
         Ok(report) => finished(report, as_json),
-        Err(mistake) => wrong(Some(command.form.command), &mistake.0, as_json),
+        Err(mistake) => wrong(Some(command.form.command), &mistake, as_json),
     }
 }
 
@@ -147,22 +144,11 @@ fn finished(report: Report, as_json: bool) -> Said {
 }
 
 /// A mistake in the call: a sentence on standard error, with `--json` an object as well.
-fn wrong(command: Option<&'static str>, sentence: &str, as_json: bool) -> Said {
-    let object = || {
-        Json::Object(vec![
-            ("command", command.map_or(Json::Null, Json::text)),
-            ("answer", Json::text("mistake")),
-            ("number", Json::Null),
-            ("sentence", Json::text(sentence)),
-        ])
-    };
+fn wrong(command: Option<&'static str>, mistake: &Mistake, as_json: bool) -> Said {
+    let object = || format!("{}\n", Json::Object(mistake.json(command)));
     Said {
-        out: if as_json {
-            format!("{}\n", object())
-        } else {
-            String::new()
-        },
-        err: format!("rehearse: {sentence}\n"),
+        out: if as_json { object() } else { String::new() },
+        err: format!("rehearse: {}\n", mistake.0),
         status: 2,
     }
 }
