@@ -81,6 +81,18 @@ fn the_guide_s_examples_run_in_an_empty_folder() {
     run("docs/GUIDE.md", &Folder::new().0, 20);
 }
 
+/// A plan of one's own is not written over by the example's.
+#[test]
+fn the_example_writes_over_nothing_else() {
+    let folder = Folder::new();
+    folder.write("plan.txt", "station\n");
+    let ran = folder.run("demo --write .");
+    assert_eq!(ran.status, 2);
+    assert!(ran.err.contains("plan.txt is there already"), "{}", ran.err);
+    assert_eq!(folder.read("plan.txt"), b"station\n");
+    assert!(!folder.0.join("good.txt").exists());
+}
+
 /// The calls that the demonstration shows can be typed, and write what it shows.
 #[test]
 fn the_demonstration_s_calls_can_be_typed() {

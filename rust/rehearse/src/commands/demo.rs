@@ -123,6 +123,16 @@ fn write(folder: &OsStr) -> Checked<Report> {
     if let Err(error) = std::fs::create_dir_all(folder) {
         return failed(error);
     }
+    let is_other = |&(name, content): &(&str, &str)| {
+        let there = std::fs::read(folder.join(name));
+        there.is_ok_and(|there| there != content.as_bytes())
+    };
+    if let Some((name, _)) = FILES.iter().find(|file| is_other(file)) {
+        return mistake(format!(
+            "{} is there already and is not the example's: name another folder",
+            folder.join(name).display()
+        ));
+    }
     for (name, content) in FILES {
         if let Err(error) = std::fs::write(folder.join(name), content) {
             return failed(error);
