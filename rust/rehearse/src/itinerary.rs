@@ -75,6 +75,7 @@ pub fn read(bytes: &[u8]) -> Read {
             interfaces: interfaces.into_iter().map(|record| interface(bytes, record)).collect(),
         });
     }
+    remarks.dedup();
     Read { stations, remarks }
 }
 
@@ -121,4 +122,49 @@ pub fn fits_some_path(bytes: &[u8], stations: usize) -> bool {
     path[2] = (length << 4) as u8;
     let at = ScionNetworkTime::from_timestamp_secs(0);
     check_journey(&path, bytes, at, at) != Err(JourneyError::UnfitItinerary)
+}
+
+#[cfg(test)]
+mod tests {
+    use super::*;
+
+    #[test]
+    fn a_plan_of_1_to_63_stations_fits_some_path() {
+        for count in 0..=70 {
+            let stations: Vec<Station> = (0..count)
+                .map(|arrival| Station {
+                    arrival,
+                    key: [arrival as u8; 16],
+                    interfaces: vec![(1, 4), (2, 6)],
+                })
+                .collect();
+            let bytes = to_bytes(&stations).unwrap();
+            let read = read(&bytes);
+            assert_eq!((read.stations, read.remarks), (stations, vec![]));
+            assert_eq!(
+                fits_some_path(&bytes, count.into()),
+                (1..=63).contains(&count),
+                "{count}"
+            );
+        }
+    }
+
+    /// A thousand stations that share a chain of a thousand interfaces: what is read of them has an end.
+    #[test]
+    fn shared_records_are_read_up_to_a_limit() {
+        let mut bytes = vec![0; RECORD * 2_001];
+        bytes[1] = 1;
+        for record in 1..=2_000u16 {
+            let next = if record % 1_000 == 0 { 0 } else { record + 1 };
+            let start = RECORD * usize::from(record);
+            bytes[start..start + 2].copy_from_slice(&next.to_be_bytes());
+            if record <= 1_000 {
+                bytes[start + 4..start + 6].copy_from_slice(&1_001u16.to_be_bytes());
+            }
+        }
+        let read = read(&bytes);
+        let interfaces: usize = read.stations.iter().map(|station| station.interfaces.len()).sum();
+        assert_eq!((read.stations.len(), interfaces), (1_000, MOST_INTERFACES));
+        assert_eq!(read.remarks, ["there are more interface records than are shown"]);
+    }
 }
