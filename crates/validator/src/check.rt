@@ -14,8 +14,8 @@ ghost use mathlib.Core.Bool.{_||_, false};
 ghost use Prim.Native.Nat.{_+_, _*_};
 ghost use lib.Dec.{eqb};
 ghost use Rattle.validator.specs.Questions.{firstNo};
-ghost use Rattle.validator.specs.Check.{scheduleMac, macNumber, interfaceFits, wrongInterface, rightMac, fieldQuestions, macQuestions};
-ghost use Rattle.validator.specs.Check.{linkQuestions, changeQuestions};
+ghost use Rattle.validator.specs.Check.{scheduleMac, macNumber, interfaceFits, wrongInterface, rightMac};
+ghost use Rattle.validator.specs.Check.{fieldQuestions, macQuestions, linkQuestions, changeQuestions};
 
 // Where a hop is checked: at ingress or at egress, on which interface, when, and whether its MAC is not asked for.
 pub struct StandardValidator {
