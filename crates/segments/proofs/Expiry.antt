@@ -3,9 +3,10 @@
 use mathlib.Core.Path.{_≡_, refl, sym, ap, ap₂, subst, _∙_}
 use mathlib.Core.Bool.{Bool, true, false, cond}
 use mathlib.Core.List.{List, [], _∷_, map}
-use Prim.Native.Nat.{ℕ, suc, _+_, _-_, _≤_, _<_, min}
+use Prim.Native.Nat.{ℕ, suc, _+_, _*_, _-_, _≤_, _<_, min}
 use native.Mathlib.Omega.{arith}
-use lib.ListN.{length}
+use lib.ListN.{length, getD, drop}
+use lib.Seq.{getD-take, getD-drop}
 use denote.Ref.{RefT, now}
 use Rattle.octets.specs.Bytes.{tabulate}
 use Rattle.standard_path.specs.Fields.{timestamp, expTime, expiry}
@@ -55,13 +56,21 @@ module _ (f : ℕ → ℕ) (first : ℕ) where
 no-true : _≡_ {A = Bool} true false → ⊥
 no-true e = subst (λ (b : Bool). cond b (Unit {0}) ⊥) e tt
 
--- a hop's expiry, from the parts of its segment
-pub hop-time : (path : List ℕ) (s first count i : ℕ) {info hops hop : List ℕ} {time : ℕ} → i < count → info ≡ infoField path s
-    → hops ≡ hopFields path first count → hop ≡ hopOf hops i → time ≡ expiry (timestamp info) (expTime hop) → time ≡ hopExpiry path s (first + i)
-unfolding hopExpiry
-hop-time path s first count i within info hops hop time =
-    time ∙ ap₂ (λ (l m : List ℕ). expiry (timestamp l) (expTime m)) info
-    (hop ∙ ap (λ (l : List ℕ). hopOf l i) hops ∙ range-hop path first count i within)
+-- the expiry grows with the units
+pub expiry-least : (start a b : ℕ) → expiry start (min a b) ≡ min (expiry start a) (expiry start b)
+unfolding expiry
+expiry-least start a b = omega arith
+
+-- a hop's expiry, from the info field's timestamp and a byte of the segment's hop fields
+pub hop-time : (path : List ℕ) (s first count i : ℕ) {start units : ℕ} {info hops : List ℕ} → i < count → info ≡ infoField path s
+    → start ≡ timestamp info → hops ≡ hopFields path first count → units ≡ getD hops (12 * i + 1) 0
+    → expiry start units ≡ hopExpiry path s (first + i)
+unfolding hopExpiry hopOf expTime
+hop-time path s first count i {start} {units} {info} {hops} within info-is start-is hops-are units-are =
+    let byte : units ≡ expTime (hopOf hops i) =
+    units-are ∙ sym (getD-take 12 (drop (12 * i) hops) 1 0 (omega arith) ∙ getD-drop (12 * i) hops 1 0) in
+    ap₂ expiry (start-is ∙ ap timestamp info-is)
+    (byte ∙ ap (λ (l : List ℕ). expTime (hopOf l i)) hops-are ∙ ap expTime (range-hop path first count i within))
 
 -- ---- a walk by an iterator, with the least expiry of the segments passed
 

@@ -212,19 +212,30 @@ fn lesser(a: u32, b: u32) -> u32
     if a < b { a } else { b }
 }
 
-// The least expiry of a segment's hops.
+fn lesser_units(a: u8, b: u8) -> u8
+    ensures { λ r. ⌜ r ≡ min a b ⌝ }
+{
+    if b < a { b } else { a }
+}
+
+// The least expiry of a segment's hops, which is that of the least ExpTime.
 fn segment_expiry(path: &[u8], info_idx: u8, first_hop: u8, hop_count: u8) -> u32
     ensures { λ r. ⌜ r ≡ segmentExpiry (now (path .entry)) (record { info = «info_idx»; first = «first_hop»; count = «hop_count» }) ⌝ }
 {
-    let info = view::info_field(path, info_idx);
+    if hop_count == 0 {
+        return 0xffff_ffff;
+    }
+    let start = view::timestamp(view::info_field(path, info_idx));
     let hops = hop_fields(path, first_hop, hop_count);
-    let mut expiry = 0xffff_ffff;
-    let mut index = 0;
+    let mut units = view::exp_time(hops);
+    let mut index = 1;
     while index < hop_count {
-        expiry = lesser(expiry, view::expiry_timestamp(hop_of(hops, index), info));
+        let at = HopFieldLayout::SIZE_BYTES * (index as usize)
+            + (HopFieldLayout::EXP_TIME as usize);
+        units = lesser_units(units, octets::byte_at(hops, at));
         index += 1;
     }
-    expiry
+    view::expiry(start, units)
 }
 
 // The lesser of a time and of the expiry of the segment that a step gave.

@@ -322,7 +322,7 @@ pub fn egress_scmp_alert(hop: &[u8], info: &[u8]) -> bool
 }
 
 // The second in which a hop field ends, capped at the largest number of 32 bits.
-fn end_of(start: u32, units: u8) -> u32
+pub fn expiry(start: u32, units: u8) -> u32
     ensures { λ r. ⌜ r ≡ expiry start units ⌝ }
 {
     let end = (start as u64) + ((units as u64) + 1) * 675 / 2;
@@ -336,5 +336,5 @@ fn end_of(start: u32, units: u8) -> u32
 pub fn expiry_timestamp(hop: &[u8], info: &[u8]) -> u32
     ensures { λ r. ⌜ r ≡ expiry (timestamp (now (info .entry))) (expTime (now (hop .entry))) ⌝ }
 {
-    end_of(timestamp(info), exp_time(hop))
+    expiry(timestamp(info), exp_time(hop))
 }
