@@ -46,7 +46,7 @@ enum {
  */
 ScionReply scion_handle_standard_path(const uint16_t *ids, size_t ids_length, const uint8_t *states, size_t states_length,
                                       uint8_t *path, size_t path_length, uint16_t ingress_interface_id, uint32_t time,
-                                      const uint8_t forwarding_key[16], bool ignore_macs);
+                                      const uint8_t as_forwarding_key[16], bool ignore_macs);
 
 /* The ingress half alone. */
 ScionReply scion_standard_path_ingress(const uint16_t *ids, size_t ids_length, const uint8_t *states, size_t states_length,

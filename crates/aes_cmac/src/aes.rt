@@ -8,7 +8,6 @@ use crate::words::xor_words;
 ghost use mathlib.Core.Path.{_≡_};
 ghost use mathlib.Core.List.{[], _∷_};
 ghost use Prim.Native.Nat.{_/_, _%_};
-ghost use Rattle.aes_cmac.specs.Block.{xorBlock};
 ghost use Rattle.aes_sbox.specs.Field.{sBox, subByte};
 ghost use Rattle.aes_cmac.specs.Cipher.{cipher};
 ghost use Rattle.aes_cmac.specs.KeyExpansion.{rotWord, subWord, roundKeys};

@@ -29,12 +29,12 @@ pub extern "C" fn scion_handle_standard_path(
     path: &mut [u8],
     ingress_interface_id: u16,
     time: u32,
-    forwarding_key: &[u8; 16],
+    as_forwarding_key: &[u8; 16],
     ignore_macs: bool,
 ) -> Reply
-    ensures { λ r. ⌜ r ≡ stepReply (step (now (ids .entry)) (now (states .entry)) (keyMac (now («forwarding_key» .entry)))
+    ensures { λ r. ⌜ r ≡ stepReply (step (now (ids .entry)) (now (states .entry)) (keyMac (now («as_forwarding_key» .entry)))
         «ingress_interface_id» time «ignore_macs» (now (path .entry)) .answer) ⌝ }
-    ensures { λ _. ⌜ now (path .exit) ≡ step (now (ids .entry)) (now (states .entry)) (keyMac (now («forwarding_key» .entry)))
+    ensures { λ _. ⌜ now (path .exit) ≡ step (now (ids .entry)) (now (states .entry)) (keyMac (now («as_forwarding_key» .entry)))
         «ingress_interface_id» time «ignore_macs» (now (path .entry)) .bytes ⌝ }
 {
     let answer = step::handle_standard_path(
@@ -43,7 +43,7 @@ pub extern "C" fn scion_handle_standard_path(
         path,
         ingress_interface_id,
         time,
-        forwarding_key,
+        as_forwarding_key,
         ignore_macs,
     );
     reply::step_reply(answer)

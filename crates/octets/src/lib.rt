@@ -23,7 +23,7 @@ pub fn u8_at(bytes: &[u8], at: u8) -> u8
     byte_at(bytes, at as usize)
 }
 
-// In this and the next one comparison serves all bytes, but where the number runs past the end.
+// Here and in `u32_at` one comparison serves all bytes of a number that does not run past the end.
 pub fn u16_at(bytes: &[u8], at: u8) -> u16
     ensures { λ r. ⌜ r ≡ be16At (now (bytes .entry)) at ⌝ }
 {

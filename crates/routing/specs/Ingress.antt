@@ -1,7 +1,7 @@
 -- 01, 'Questions in order' and 'standard/routing.rs': the ingress half, its answer and every byte that it leaves.
 -- Assumes nothing.
 use Prim.Native.Nat.{ℕ, _+_}
-use mathlib.Core.Bool.{Bool, true, not, _&&_, cond}
+use mathlib.Core.Bool.{Bool, not, _&&_, cond}
 use mathlib.Core.List.{List, [], _++_}
 use lib.Dec.{eqb}
 use Rattle.standard_path.specs.Mac.{macBetaStep}
@@ -50,7 +50,7 @@ ingressSegId path interface = cond (stepsAtIngress path interface) (steppedSegId
 
 -- ---- 9 to 12, and at a segment change 13 to 16 and 9 to 12 for the next hop
 
--- all but the next hop's 12
+-- 13 to 16, and 9 to 11 for the next hop
 abbrev pub nextFieldQuestions : List ℕ → List ℕ → StandardValidator → List ℕ → Questions
 nextFieldQuestions ids states at path =
     changeQuestions ids states (currHf path) (hop path) (info path) (nextHop path) (nextInfo path)

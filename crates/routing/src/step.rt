@@ -1,7 +1,8 @@
 // The whole step, and each half by itself.
 //
 // Ported from crates/pocketscion/src/network/scion/routing/spec/standard.rs of Anapaya/scion-sdk at commit 866faf5ba3, and changed:
-// rewritten in Rattle, with contracts; the interfaces are a lent table in place of a closure; one key schedule serves all MACs of a call.
+// rewritten in Rattle, with contracts; the interfaces are a lent table in place of a closure; one key schedule serves all MACs of a
+// call; egress inside the whole step asks only where the path stands.
 // Copyright 2025 Anapaya Systems
 // Licensed under the Apache License, Version 2.0: see NOTICE.
 use crate::egress;

@@ -86,7 +86,7 @@ advanced at = record { path = at .path; place = placeAfter (at .place) (stepOf a
 
 -- ---- when a path ends
 
--- the least of a list of times, of which none is above the cap
+-- the least of a list of times, of which none is above the cap; the cap for none
 abbrev pub least : List ℕ → ℕ
 least [] = 4294967295
 least (time ∷ times) = min time (least times)
@@ -97,6 +97,7 @@ hopExpiry path info hop = expiry (timestamp (infoField path info)) (expTime (hop
 unfoldable pub segmentExpiry : List ℕ → PathSegment → ℕ
 segmentExpiry path segment = least (tabulate (segment .count) (segment .first) (hopExpiry path (segment .info)))
 
+-- for the contract of an inner function: the expiry of the segment that a step gave, the cap for an end
 abbrev pub stepExpiry : List ℕ → SegmentStep → ℕ
 stepExpiry path (Segment info first count behind) = segmentExpiry path (record { info = info; first = first; count = count })
 stepExpiry path End = 4294967295

@@ -2,7 +2,7 @@
 //
 // Ported from crates/libs/sciparse/src/proto/dataplane_path/standard/view.rs of Anapaya/scion-sdk at commit 866faf5ba3, and changed:
 // rewritten in Rattle, with contracts; `SegmentIterator` keeps the path and its place in it, and `next` gives a segment by its
-// numbers, of which `info_field` and `hop_fields` make its parts; a header that is not whole is refused.
+// numbers, of which `info_field` and `hop_fields` make its parts; `expiration` refuses a header that is not whole.
 // Copyright 2026 Anapaya Systems
 // Licensed under the Apache License, Version 2.0: see NOTICE.
 use standard_path::layout::HopFieldLayout;

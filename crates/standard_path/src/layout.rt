@@ -72,6 +72,7 @@ impl HopFieldLayout {
     }
 }
 
+// The three lengths; no call needs more of the Rust's type of this name than `view` has.
 pub struct StdPathDataLayout {
     pub seg0: u8,
     pub seg1: u8,

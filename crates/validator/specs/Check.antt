@@ -4,7 +4,7 @@ use Prim.Native.Nat.{ℕ, _+_, _*_}
 use mathlib.Core.Bool.{Bool, true, false, not, _||_, cond}
 use mathlib.Core.List.{List, [], _∷_, _++_}
 use lib.Dec.{eqb, leb}
-use lib.ListN.{getD, take}
+use lib.ListN.{take}
 use Rattle.octets.specs.Bytes.{be16At, be32At}
 use Rattle.aes_cmac.specs.ByTable.{cipherBy}
 use Rattle.aes_cmac.specs.Cmac.{macWith}
@@ -63,6 +63,7 @@ macQuestions mac ignored index hop info segId = (
 )
     ∷ []
 
+-- 9 to 12 at ingress, 19 and 10 to 12 at egress
 abbrev pub hopQuestions : MacFunction → StandardValidator → ℕ → List ℕ → List ℕ → ℕ → Questions
 hopQuestions mac at index hop info segId = fieldQuestions at index hop info ++ macQuestions mac (at .«ignore_macs») index hop info segId
 

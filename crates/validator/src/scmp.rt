@@ -6,7 +6,6 @@
 // Licensed under the Apache License, Version 2.0: see NOTICE.
 use crate::answer::StandardRoutingError;
 ghost use mathlib.Core.Path.{_≡_};
-ghost use mathlib.Core.Bool.{cond};
 ghost use Rattle.validator.specs.Scmp.{interfaceError, toScmpError};
 
 pub enum ScmpError {

@@ -124,6 +124,10 @@ pub fn run(case: &Case, path: &mut [u8]) -> Answer {
 pub fn segment_index(path: &[u8], hop: u8) -> Option<(usize, bool, bool)> {
     // SAFETY: pointer and length of a slice that is borrowed for the call
     let reply = unsafe { scion_calculate_segment_index(path.as_ptr(), path.len(), hop) };
+    assert!(
+        reply.number == 112
+            || reply.number == 5 && reply.count == 1 && reply.values[0] == u64::from(hop)
+    );
     let [index, start, end, _] = reply.values;
     (reply.number == 112).then_some((index as usize, start == 1, end == 1))
 }

@@ -102,6 +102,7 @@ fn segment_indices(first: usize, of: usize, run: &mut Run) -> u64 {
                 != archive::segment_index(&path, hop as u8)
             {
                 run.different += 1;
+                println!("DIFFERENT SEGMENT INDEX: {lengths:?} {hop}");
             }
         }
     }
