@@ -65,7 +65,8 @@ impl Arguments {
         let Some(&(name, what)) = self.form.values.iter().find(|&&(value, _)| value == name) else {
             return self.wrong(format!("{name} is not an option of this command"));
         };
-        let Some(value) = given.or_else(|| words.next().cloned()) else {
+        let behind = || words.next().filter(|word| !self.is_option(word)).cloned();
+        let Some(value) = given.or_else(behind) else {
             return self.wrong(format!("{name} needs a value behind it ({what})"));
         };
         if self.value(name).is_some() {
@@ -73,6 +74,14 @@ impl Arguments {
         }
         self.values.push((name, value));
         Ok(())
+    }
+
+    /// Whether a word is an option to the eye. As a value it has to be given as `--option=VALUE`.
+    fn is_option(&self, word: &OsStr) -> bool {
+        let word = word.to_string_lossy();
+        let name = word.split('=').next().unwrap_or("");
+        let is_short = self.form.values.iter().any(|(option, _)| *option == name) || name == "-h";
+        name.starts_with("--") || is_short
     }
 
     /// A mistake, with where to read on.

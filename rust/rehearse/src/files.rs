@@ -7,6 +7,7 @@ use std::collections::BTreeMap;
 use std::ffi::{OsStr, OsString};
 use std::fs;
 use std::io::{self, ErrorKind, Read};
+use std::path::PathBuf;
 
 /// The most bytes that are read of a file: far more than any header or plan has.
 pub const LIMIT: u64 = 64 * 1024 * 1024;
@@ -15,6 +16,8 @@ pub enum Files {
     Disk {
         /// Whether standard input has been read, which can be done once.
         input_read: Cell<bool>,
+        /// The files that were read, by their full names: none of them is written.
+        read: RefCell<Vec<PathBuf>>,
     },
     Memory(RefCell<BTreeMap<OsString, Vec<u8>>>),
 }
@@ -31,6 +34,7 @@ impl Files {
     pub fn on_disk() -> Files {
         Files::Disk {
             input_read: Cell::new(false),
+            read: RefCell::default(),
         }
     }
 
@@ -40,16 +44,27 @@ impl Files {
 
     /// A file as it is; `-` is standard input.
     pub fn read(&self, name: &OsStr) -> Checked<Vec<u8>> {
+        if name.is_empty() {
+            return mistake("a file name is empty: name the file, or - for standard input");
+        }
         match self {
             Files::Memory(files) => match files.borrow().get(name) {
                 Some(bytes) => Ok(bytes.clone()),
                 None => mistake(format!("{} is not there", shown(name))),
             },
-            Files::Disk { input_read } if name == "-" => match input_read.replace(true) {
-                false => read_within(io::stdin().lock(), name),
-                true => mistake("standard input is named twice: only one of the files can be -"),
-            },
-            Files::Disk { .. } => read_file(name),
+            Files::Disk { input_read, read } => {
+                let is_input = name == "-";
+                if is_input && input_read.replace(true) {
+                    return mistake("standard input is named twice: only one of the files can be -");
+                }
+                // A file behind standard input has a name there too, where the system tells it.
+                let place = if is_input { OsStr::new("/dev/stdin") } else { name };
+                read.borrow_mut().extend(fs::canonicalize(place));
+                match is_input {
+                    true => read_within(io::stdin().lock(), name),
+                    false => read_file(name),
+                }
+            }
         }
     }
 
@@ -83,6 +98,9 @@ impl Files {
 
     /// Writes a file: as raw bytes, or as the hex text where its name ends so.
     pub fn write(&self, name: &OsStr, bytes: &[u8], hex: &str) -> Checked<()> {
+        if name.is_empty() {
+            return mistake("the name of the file to write is empty: name a file");
+        }
         let is_hex = name.to_string_lossy().ends_with(".hex");
         let content = if is_hex { hex.as_bytes() } else { bytes };
         match self {
@@ -90,12 +108,20 @@ impl Files {
                 files.borrow_mut().insert(name.to_owned(), content.to_vec());
                 Ok(())
             }
-            Files::Disk { .. } => fs::write(name, content).or_else(|error| {
-                mistake(format!(
-                    "{} can't be written ({error}): name a file in a folder that you may write to",
-                    shown(name)
-                ))
-            }),
+            Files::Disk { read, .. } => {
+                if fs::canonicalize(name).is_ok_and(|name| read.borrow().contains(&name)) {
+                    return mistake(format!(
+                        "{} is a file that this call reads, and writing would lose it: name another file to write",
+                        shown(name)
+                    ));
+                }
+                fs::write(name, content).or_else(|error| {
+                    mistake(format!(
+                        "{} can't be written ({error}): name a file in a folder that you may write to",
+                        shown(name)
+                    ))
+                })
+            }
         }
     }
 }

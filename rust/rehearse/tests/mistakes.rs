@@ -18,7 +18,6 @@ fn folder() -> Folder {
     folder.write("junk", common::Random(7).bytes(200));
     folder.write("nothing.txt", "# no station yet\n");
     folder.write("list-empty", "# nothing\n");
-    folder.write("list-one", "good.path\n");
     std::fs::create_dir(folder.0.join("folder")).unwrap();
     let huge = std::fs::File::create(folder.0.join("huge")).unwrap();
     huge.set_len(100 * 1024 * 1024).unwrap();
@@ -79,8 +78,7 @@ fn mistakes_in_a_call() {
         "journey good.path site.plan",
         "journey good.path site.plan --earliest 1",
         "journey - - --earliest 1 --latest 2",
-        "journey good.path --batch list-one --earliest 1 --latest 2",
-        "journey --batch list-one --earliest 1 --latest 2",
+        "journey good.path --batch list-empty --earliest 1 --latest 2",
         "journey --batch list-empty --earliest 1 --latest 2",
         "journey --batch nope --earliest 1 --latest 2",
         "plan plan.txt",
@@ -93,6 +91,20 @@ fn mistakes_in_a_call() {
         "sign --show good.path --plan site.plan",
         "sign good.path -o x",
         "demo extra",
+        "plan plan.txt -o --hex",
+        "step good.path STEP --write --raw",
+        "step good.path --table 1:parent:up --interface --key 30a1f2c4b5d697e8091a2b3c4d5e6f70 --now 1",
+        "journey --batch --earliest 1 --latest 2",
+        "plan --show --hex site.plan",
+        "sign good.txt --plan -o x",
+        "plan plan.txt -o --",
+        "plan plan.txt -o plan.txt",
+        "plan plan.txt -o folder/../plan.txt",
+        "sign good.txt --plan plan.txt -o plan.txt",
+        "sign good.txt --plan plan.txt -o good.txt",
+        "step good.path STEP --write good.path",
+        "reverse good.path --write ./good.path",
+        "show -- --json",
         "demo --write empty",
     ];
     expect("mistakes-call.txt", &transcript(&folder(), &calls, 2));

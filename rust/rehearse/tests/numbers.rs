@@ -22,8 +22,8 @@ fn cases() -> Vec<(u64, &'static str, &'static str, Vec<String>)> {
     // The core gets what hall A sends.
     let core = |call: &str, table: &str| {
         vec![
-            format!("step path {HALL_A} --write path --ignore-macs"),
-            format!("{call} path --table {table} {CORE}"),
+            format!("step path {HALL_A} --write at-core --ignore-macs"),
+            format!("{call} at-core --table {table} {CORE}"),
         ]
     };
     let (links, out) = ("11:child:up,12:child:up,13:child:down", "hop in 0 out 12 lasts 6h");

@@ -1,22 +1,21 @@
 //! `rehearse journey --batch`: many journeys, a line for each, and a summary.
 
-use super::journey::{between, check, Between};
+use super::journey::{between, check, Between, Checking};
 use crate::answers::Answer;
 use crate::arguments::Arguments;
-use crate::files::{shown, Files};
+use crate::files::{is_plain, shown, Files};
 use crate::json::Json;
-use crate::mistake::{mistake, Checked};
+use crate::mistake::{mistake, Checked, Mistake};
 use crate::output::{self, Progress};
 use crate::report::{counted, Report};
 use std::collections::BTreeMap;
 use std::ffi::OsStr;
 use std::io::{self, IsTerminal};
 
-/// A journey of the list.
+/// A line of the list: a path and a plan, or what is wrong with it.
 struct Entry<'a> {
     line: usize,
-    path: &'a str,
-    plan: &'a str,
+    names: Checked<[&'a str; 2]>,
 }
 
 #[derive(Default)]
@@ -36,80 +35,97 @@ pub fn run(arguments: &Arguments, files: &Files) -> Checked<Report> {
     }
     let between = between(arguments)?;
     let name = arguments.value("--batch").unwrap_or_default();
-    let (text, of) = (files.read_text(name)?, shown(name));
-    let entries = entries(&text, &of)?;
+    let (list, of) = (files.read(name)?, shown(name));
+    let entries = entries(&list, &of);
     if entries.is_empty() {
         return mistake(format!("{of} names no journey: write a path and a plan on each line"));
     }
     let mut progress = Progress::of(entries.len());
     let is_screen = io::stdout().is_terminal();
     let mut summary = Summary::default();
+    // Without a reader the journeys are checked all the same: the status is that of all of them.
+    let mut is_read = true;
     for (done, entry) in entries.iter().enumerate() {
         progress.at(done);
         let line = one(files, entry, &between, arguments.flag("--json"), &mut summary);
         if is_screen {
             progress.clear();
         }
-        if !output::print(&line)? {
-            break;
-        }
+        is_read = is_read && output::print(&line)?;
     }
     progress.clear();
     Ok(summary.report(entries.len()))
 }
 
 /// The list's journeys: a path and a plan on each line, between them white space, or a tab where a name has spaces.
-fn entries<'a>(text: &'a str, of: &str) -> Checked<Vec<Entry<'a>>> {
+fn entries<'a>(list: &'a [u8], of: &str) -> Vec<Entry<'a>> {
+    let list = list.strip_prefix("\u{feff}".as_bytes()).unwrap_or(list);
     let mut entries = Vec::new();
-    for (at, line) in text.lines().enumerate() {
-        let said = line.trim();
-        if said.is_empty() || said.starts_with('#') {
-            continue;
-        }
-        let words: Vec<&str> = match said.contains('\t') {
-            true => said
-                .split('\t')
-                .map(str::trim)
-                .filter(|word| !word.is_empty())
-                .collect(),
-            false => said.split_whitespace().collect(),
+    for (at, line) in list.split(|&byte| byte == b'\n').enumerate() {
+        let names = match std::str::from_utf8(line).map(without_comment) {
+            Ok("") => continue,
+            Err(_) if line.trim_ascii_start().starts_with(b"#") => continue,
+            Ok(said) if is_plain(said) => two_names(said),
+            _ => mistake("there is a byte in this line that is no text: write the names in UTF-8"),
         };
-        let [path, plan] = words[..] else {
-            return mistake(format!(
-                "{of}, line {}: write a path and a plan, with a space between them, or a tab if a name has spaces",
-                at + 1
-            ));
-        };
-        entries.push(Entry {
-            line: at + 1,
-            path,
-            plan,
-        });
+        let line = at + 1;
+        let names = names.map_err(|why| Mistake(format!("{of}, line {line}: {}", why.0)));
+        entries.push(Entry { line, names });
     }
-    Ok(entries)
+    entries
+}
+
+/// A line up to a # that starts a word.
+fn without_comment(line: &str) -> &str {
+    let starts_word = |&(at, _): &(usize, &str)| line[..at].chars().next_back().is_none_or(char::is_whitespace);
+    let comment = line.match_indices('#').find(starts_word);
+    comment.map_or(line, |(at, _)| &line[..at]).trim()
+}
+
+fn two_names(said: &str) -> Checked<[&str; 2]> {
+    let words: Vec<&str> = match said.contains('\t') {
+        true => said
+            .split('\t')
+            .map(str::trim)
+            .filter(|word| !word.is_empty())
+            .collect(),
+        false => said.split_whitespace().collect(),
+    };
+    words
+        .try_into()
+        .or_else(|_| mistake("write a path and a plan, with a space between them, or a tab if a name has spaces"))
 }
 
 /// Checks one journey and gives its line.
 fn one(files: &Files, entry: &Entry<'_>, between: &Between, as_json: bool, summary: &mut Summary) -> String {
-    let &Entry { line, path, plan } = entry;
-    let (label, why, mut json) = match check(files, OsStr::new(path), OsStr::new(plan), between) {
-        Ok((answer, report)) => (summary.count(&answer), String::new(), report.json),
+    let checking = match &entry.names {
+        Ok([path, plan]) => check(files, OsStr::new(path), OsStr::new(plan), between),
+        Err(why) => mistake(&why.0),
+    };
+    let (label, why, mut json) = match checking {
+        Ok(Checking { answer, report, stop }) => {
+            let why = stop.map(|(station, number)| format!("station {station}, number {number}"));
+            (summary.count(&answer), why, report.json)
+        }
         Err(mistake) => {
             summary.not_read += 1;
             (
                 "not read".into(),
-                format!(": {}", mistake.0),
+                Some(mistake.0.clone()),
                 mistake.json(Some("journey")),
             )
         }
     };
+    let names = entry.names.as_ref().ok();
     if as_json {
-        json.push(("line", Json::number(line)));
-        json.push(("path_file", Json::text(path)));
-        json.push(("plan_file", Json::text(plan)));
+        let name = |at: usize| names.map_or(Json::Null, |names| Json::text(names[at]));
+        json.push(("line", Json::number(entry.line)));
+        json.push(("path_file", name(0)));
+        json.push(("plan_file", name(1)));
         return format!("{}\n", Json::Object(json));
     }
-    format!("{label:<11} {path} {plan}{why}\n")
+    let said: Vec<String> = names.map(|names| names.join(" ")).into_iter().chain(why).collect();
+    format!("{label:<11} {}\n", said.join(": "))
 }
 
 impl Summary {

@@ -39,8 +39,7 @@ pub fn run(arguments: &Arguments, files: &Files) -> Checked<Report> {
     }
     let path = arguments.file(0, PATH)?;
     let plan = arguments.file(1, "the file with the plan, as bytes, as hex or in its text form")?;
-    let (_, report) = check(files, path, plan, &between(arguments)?)?;
-    Ok(report)
+    Ok(check(files, path, plan, &between(arguments)?)?.report)
 }
 
 pub fn between(arguments: &Arguments) -> Checked<Between> {
@@ -51,8 +50,16 @@ pub fn between(arguments: &Arguments) -> Checked<Between> {
     })
 }
 
-/// Checks one path over one plan: the library's answer, and all that there is to say of it.
-pub fn check(files: &Files, path: &OsStr, plan: &OsStr, between: &Between) -> Checked<(Answer, Report)> {
+/// The library's answer, and all that there is to say of it.
+pub struct Checking {
+    pub answer: Answer,
+    pub report: Report,
+    /// The station that stops a path that does not pass, and the number of its answer.
+    pub stop: Option<(usize, u16)>,
+}
+
+/// Checks one path over one plan.
+pub fn check(files: &Files, path: &OsStr, plan: &OsStr, between: &Between) -> Checked<Checking> {
     let &Between {
         earliest,
         latest,
@@ -83,14 +90,20 @@ pub fn check(files: &Files, path: &OsStr, plan: &OsStr, between: &Between) -> Ch
     report.member("latest", Json::number(latest));
     let stop = match verdict {
         Ok(Verdict::NotPassed) => where_it_stops(&path, &stations, [earliest, latest], &mut report),
-        _ => Json::Null,
+        _ => None,
     };
-    report.member("stops", stop);
-    Ok((answer, report))
+    let (stop, stops) = stop.unzip();
+    report.member("stops", stops.unwrap_or(Json::Null));
+    Ok(Checking { answer, report, stop })
 }
 
 /// Drives the path with every clock at the earliest reading, then at the latest, until a station holds it.
-fn where_it_stops(path: &[u8], stations: &[plan::Station], readings: [u32; 2], report: &mut Report) -> Json {
+fn where_it_stops(
+    path: &[u8],
+    stations: &[plan::Station],
+    readings: [u32; 2],
+    report: &mut Report,
+) -> Option<((usize, u16), Json)> {
     for reading in readings {
         let Some(drive::Stop { station, answer }) = drive::stop(path, stations, reading) else {
             report.line("arrives", format!("with every clock at {}", dates::both(reading)));
@@ -102,9 +115,9 @@ fn where_it_stops(path: &[u8], stations: &[plan::Station], readings: [u32; 2], r
         );
         report.line("", answer.headline());
         report.lines(&about(answer.number));
-        return stop_json(station, reading, &answer);
+        return Some(((station, answer.number), stop_json(station, reading, &answer)));
     }
-    Json::Null
+    None
 }
 
 fn stop_json(station: usize, reading: u32, answer: &Answer) -> Json {

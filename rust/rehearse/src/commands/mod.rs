@@ -88,7 +88,8 @@ const HELP: &str = include_str!("../../help/rehearse.txt");
 
 /// Runs one call.
 pub fn run(words: &[OsString], files: &Files) -> Said {
-    let as_json = words.iter().any(|word| word == "--json");
+    let mut options = words.iter().take_while(|word| *word != "--");
+    let as_json = options.any(|word| word == "--json");
     let Some(first) = words.first() else {
         let sentence = "say what to do, as `rehearse demo`: see `rehearse --help`";
         return wrong(None, &Mistake(sentence.into()), as_json);

@@ -1,0 +1,65 @@
+//! Lists of journeys: lines that are no good, and a reader that goes away.
+
+mod common;
+
+use common::json::{parse, Value};
+use common::{expect, Folder, PROGRAM};
+use std::process::Command;
+
+const READINGS: &str = "--earliest 2026-11-16T06:05:00Z --latest 2026-11-16T11:00:00Z";
+
+/// The status is that of all journeys, also where nobody reads their lines.
+#[test]
+fn a_list_without_a_reader_is_checked_to_its_end() {
+    let folder = Folder::with_site();
+    let good = "good.path site.plan\n".repeat(200);
+    for (last, status) in [
+        ("good.path site.plan", 0),
+        ("late.path site.plan", 1),
+        ("nope site.plan", 2),
+    ] {
+        folder.write("list", format!("{good}{last}\n"));
+        for reader in ["true", "head -1"] {
+            let call = format!("{{ {PROGRAM} journey --batch list {READINGS}; echo $? >status; }} | {reader}");
+            let output = Command::new("sh")
+                .args(["-c", &call])
+                .current_dir(&folder.0)
+                .output()
+                .unwrap();
+            assert!(output.stderr.is_empty(), "{output:?}");
+            // The status is written once the list is through, which the reader does not wait for.
+            let said = (0..600).find_map(|_| {
+                std::thread::sleep(std::time::Duration::from_millis(10));
+                let said = std::fs::read_to_string(folder.0.join("status")).ok()?;
+                said.trim().parse::<i32>().ok()
+            });
+            assert_eq!(said, Some(status), "{last} | {reader}");
+            std::fs::remove_file(folder.0.join("status")).unwrap();
+        }
+    }
+}
+
+const LIST: &[u8] = b"\xef\xbb\xbfgood.path site.plan # the first of the day\n\
+good.path\n\
+good.path site.plan late.path\n\
+  # a remark on a caf\xe9\n\
+caf\xe9.path site.plan\n\
+late.path site.plan\t# with a tab\n\
+good.path site.plan\r\n";
+
+#[test]
+fn each_bad_line_is_named_and_the_others_are_checked() {
+    let folder = Folder::with_site();
+    folder.write("list", LIST);
+    folder.write("list-one", "good.path\n");
+    let mut said = folder.transcript(&format!("journey --batch list {READINGS}"));
+    said += &folder.transcript(&format!("journey --batch list-one {READINGS}"));
+    expect("bad-lines.txt", &said);
+    assert_eq!(folder.run(&format!("journey --batch list {READINGS}")).status, 2);
+
+    let ran = folder.run(&format!("journey --batch list {READINGS} --json"));
+    let answers: Vec<Value> = ran.out.lines().map(parse).collect();
+    let lines: Vec<_> = answers[..6].iter().filter_map(|answer| answer.number("line")).collect();
+    assert_eq!((ran.status, &lines[..]), (2, &[1, 2, 3, 5, 6, 7][..]));
+    assert_eq!(answers[6].number("not_read"), Some(3));
+}
