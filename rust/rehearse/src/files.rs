@@ -1,6 +1,7 @@
 //! Files that are read and written: on the disk, or in memory for the demonstration.
 
 use crate::hex;
+use crate::kinds::{self, Kind};
 use crate::mistake::{mistake, Checked};
 use std::cell::{Cell, RefCell};
 use std::collections::BTreeMap;
@@ -86,14 +87,10 @@ impl Files {
         if let Some(read) = spelled(&bytes, spelling, name) {
             return read;
         }
-        if std::str::from_utf8(&bytes).is_ok_and(is_plain) {
-            return mistake(format!(
-                "{0} is text and no path header: make the header with `rehearse sign {0} --plan PLAN -o PATH`, or say \
-                 --raw if the header has these bytes",
-                shown(name)
-            ));
+        match std::str::from_utf8(&bytes) {
+            Ok(text) if is_plain(text) => mistake(no_header(text, name)),
+            _ => Ok(bytes),
         }
-        Ok(bytes)
     }
 
     /// Writes a file: as raw bytes, or as the hex text where its name ends so.
@@ -124,6 +121,27 @@ impl Files {
             }
         }
     }
+}
+
+/// What to say of a text that is given as a path.
+fn no_header(text: &str, name: &OsStr) -> String {
+    let (of, word) = (shown(name), name.to_string_lossy());
+    match kinds::of(text) {
+        Kind::Plan => format!("{of} is the text form of a plan and no path: give the path here"),
+        Kind::Path => format!(
+            "{of} is the text form of a path and no header: make the header with \
+             `rehearse sign {word} --plan PLAN -o PATH`"
+        ),
+        Kind::AlmostHex(why) => almost_hex(&of, &why),
+        Kind::Other => format!(
+            "{of} is text and no path header: `rehearse sign` makes a header of a path's text form, --hex says that it \
+             is hex text, --raw that the header has these bytes"
+        ),
+    }
+}
+
+pub fn almost_hex(of: &str, why: &str) -> String {
+    format!("{of}: {why} (--raw takes the file as it is)")
 }
 
 /// The bytes as raw or hex, or nothing if they have to be looked at further.

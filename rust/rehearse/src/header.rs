@@ -54,6 +54,11 @@ impl<'a> Header<'a> {
         self.lengths().iter().filter(|&&length| length != 0).count()
     }
 
+    /// How many stations the path asks for: one for each hop, but one for the two of a segment change.
+    pub fn stations(&self) -> usize {
+        self.hops() - self.infos() + 1
+    }
+
     /// How many bytes the header has by its lengths.
     pub fn size(&self) -> usize {
         4 + 8 * self.infos() + 12 * self.hops()

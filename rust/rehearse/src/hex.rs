@@ -12,20 +12,32 @@ pub fn is_hex(text: &[u8]) -> bool {
         .all(|byte| byte.is_ascii_hexdigit() || byte.is_ascii_whitespace())
 }
 
+/// The first character that hex text does not have, with its place.
+pub fn first_wrong(text: &[u8]) -> Option<String> {
+    let at = text.iter().position(|byte| !is_hex(&[*byte]))?;
+    // All before it is ASCII, so that a byte is a character there.
+    let (before, rest) = text.split_at(at);
+    let line = before.split(|&byte| byte == b'\n').count();
+    let place = before.iter().rev().take_while(|&&byte| byte != b'\n').count() + 1;
+    let letter = String::from_utf8_lossy(&rest[..rest.len().min(4)]).chars().next();
+    let name = match letter {
+        Some('\u{feff}') => "a byte order mark".into(),
+        Some(letter) if !letter.is_control() && letter != char::REPLACEMENT_CHARACTER => format!("`{letter}`"),
+        _ => format!("the byte {:02x}", text[at]),
+    };
+    Some(format!(
+        "character {place} of line {line} is {name} and no hex digit: hex text has the digits 0 to 9 and a to f and \
+         white space only"
+    ))
+}
+
 /// The bytes that a hex text stands for. `of` is what it is the text of.
 pub fn from_hex(text: &[u8], of: &str) -> Checked<Vec<u8>> {
-    let mut digits = Vec::with_capacity(text.len());
-    for (at, &byte) in text.iter().enumerate() {
-        match char::from(byte).to_digit(16) {
-            Some(digit) => digits.push(digit as u8),
-            None if byte.is_ascii_whitespace() => {}
-            None => {
-                return mistake(format!(
-                    "{of}: byte {at} is no hex digit: hex text has the digits 0 to 9 and a to f and white space only"
-                ))
-            }
-        }
+    if let Some(why) = first_wrong(text) {
+        return mistake(format!("{of}: {why}"));
     }
+    let digits = text.iter().filter_map(|&byte| char::from(byte).to_digit(16));
+    let digits: Vec<u8> = digits.map(|digit| digit as u8).collect();
     if digits.len() % 2 == 1 {
         return mistake(format!(
             "{of}: {} hex digits are an odd number: a byte has two, so that one is missing or one too many",

@@ -15,6 +15,7 @@ mod hop_text;
 mod interfaces;
 mod itinerary;
 mod json;
+mod kinds;
 mod lines;
 mod mistake;
 mod output;

@@ -6,6 +6,9 @@ use crate::hop_text::{hop, reserved_flags, HopText};
 use crate::lines::{lines, once, Line};
 use crate::mistake::{mistake, Checked};
 
+/// The most bytes behind a header that the text form takes, both ways.
+pub const MOST_BEHIND: usize = 1_048_576;
+
 pub struct PathText {
     pub curr_inf: u8,
     pub curr_hf: u8,
@@ -169,6 +172,7 @@ impl Reader {
             self.end_block(line.of)?;
         }
         match line.words[..] {
+            ["station"] => line.wrong("this is the text form of a plan and no path: `rehearse plan` takes it"),
             ["path"] if self.path.is_some() || !self.segments.is_empty() => {
                 line.wrong("`path` stands once, before the first segment")
             }
@@ -190,7 +194,10 @@ impl Reader {
             [word @ ("path" | "segment"), ..] => line.wrong(format!("write `{word}` alone; a name goes behind a #")),
             ["behind", ref words @ ..] => {
                 self.behind.extend(from_hex(words.concat().as_bytes(), &line.place())?);
-                Ok(())
+                match self.behind.len() > MOST_BEHIND {
+                    true => line.wrong("there are more than 1,048,576 bytes behind the header: leave some out"),
+                    false => Ok(()),
+                }
             }
             _ => match &mut self.block {
                 Some(draft) => draft.read(line),

@@ -1,9 +1,10 @@
 //! A site plan: its stations, and the text form in which people write them.
 
-use crate::files::{is_plain, shown, spelled, Files, Spelling};
+use crate::files::{almost_hex, is_plain, shown, spelled, Files, Spelling};
 use crate::hex::to_hex;
 use crate::interfaces::{self, Interface};
 use crate::itinerary;
+use crate::kinds::{self, Kind};
 use crate::lines::{lines, once, Line};
 use crate::mistake::{mistake, Checked};
 use std::ffi::OsStr;
@@ -73,6 +74,9 @@ pub fn from_text(text: &str, of: &str) -> Checked<Vec<Station>> {
             }),
             (["station", ..], _) => return line.wrong("write `station` alone; a name goes behind a #"),
             (_, Some(draft)) => draft.read(&line)?,
+            (["path" | "segment" | "behind", ..], None) => {
+                return line.wrong("this is the text form of a path and no plan: `rehearse sign` takes it")
+            }
             (_, None) => return line.wrong("a plan starts with the word `station` on a line of its own"),
         }
     }
@@ -104,10 +108,13 @@ pub fn read(files: &Files, name: &OsStr, spelling: Spelling) -> Checked<Vec<u8>>
         return read;
     }
     match std::str::from_utf8(&bytes) {
-        Ok(text) if is_plain(text) => {
-            let text = text.strip_prefix('\u{feff}').unwrap_or(text);
-            itinerary::to_bytes(&from_text(text, &shown(name))?)
-        }
+        Ok(text) if is_plain(text) => match kinds::of(text) {
+            Kind::AlmostHex(why) => mistake(almost_hex(&shown(name), &why)),
+            _ => {
+                let text = text.strip_prefix('\u{feff}').unwrap_or(text);
+                itinerary::to_bytes(&from_text(text, &shown(name))?)
+            }
+        },
         _ => Ok(bytes),
     }
 }

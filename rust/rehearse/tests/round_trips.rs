@@ -102,7 +102,11 @@ fn a_path_s_bytes_come_back_through_its_text() {
         assert_eq!(shown.status, i32::from(hops > 64), "{lengths:?}");
         folder.write("text", &shown.out);
         let signed = folder.run("sign text -o again");
-        assert_eq!((signed.status, &signed.err[..]), (0, ""), "{}", shown.out);
+        // What the library turns down is said, and so is a path without hops.
+        assert_eq!(signed.status, i32::from(hops > 64), "{}", shown.out);
+        assert_eq!(signed.err.contains("number 4:"), hops > 64, "{}", signed.err);
+        assert_eq!(signed.err.contains("has no hop"), hops == 0, "{}", signed.err);
+        assert_eq!(signed.err.is_empty(), (1..=64).contains(&hops), "{}", signed.err);
         assert_eq!(to_hex(&folder.read("again")), to_hex(&path), "{}", shown.out);
         folder.run("sign text -o again.hex");
         assert_eq!(folder.run("sign --show again.hex").out, shown.out);
@@ -197,7 +201,10 @@ fn a_hop_without_a_key_is_said() {
     );
     let signed = folder.run("sign good.txt --plan short.txt -o -");
     assert_eq!(signed.status, 0);
-    assert_eq!(signed.err.lines().count(), 4);
+    assert_eq!(signed.err.lines().count(), 5);
+    assert!(signed
+        .err
+        .contains("the plan has 1 station, and this path asks for 4 (hops - infos + 1)"));
     assert!(signed
         .err
         .contains("hop 4 has no key, so that its MAC is zeros: the plan has 1 station, and this hop is for station 3, counted from 0"));

@@ -45,7 +45,7 @@ fn write(arguments: &Arguments, files: &Files) -> Checked<Report> {
         counted(records, "record")
     );
     if !fits {
-        report.notes.push(turned_down());
+        report.notes.push(turned_down(stations.len()));
     }
     report.member("stations", Json::number(stations.len()));
     report.member("fits_some_path", Json::Flag(fits));
@@ -54,8 +54,13 @@ fn write(arguments: &Arguments, files: &Files) -> Checked<Report> {
     Ok(report)
 }
 
-fn turned_down() -> String {
-    "question 23 turns this plan down for every path: see number 23 in docs/GUIDE.md".into()
+/// A sentence on a plan that fits no path.
+pub fn turned_down(stations: usize) -> String {
+    let why = match stations {
+        0..=63 => "see number 23 in docs/GUIDE.md".into(),
+        _ => format!("it has {stations} stations, and no path has more than 63"),
+    };
+    format!("question 23 turns this plan down for every path: {why}")
 }
 
 fn show(arguments: &Arguments, files: &Files, name: &OsStr) -> Checked<Report> {
@@ -67,7 +72,7 @@ fn show(arguments: &Arguments, files: &Files, name: &OsStr) -> Checked<Report> {
     let fits = itinerary::fits_some_path(&bytes, read.stations.len());
     let mut remarks = Vec::new();
     if !fits {
-        remarks.push(turned_down());
+        remarks.push(turned_down(read.stations.len()));
     }
     remarks.extend(read.remarks);
     if itinerary::to_bytes(&read.stations).ok().as_ref() != Some(&bytes) {

@@ -1,5 +1,6 @@
 //! `rehearse sign`: a path header from its text form, its MACs worked out, and back.
 
+use super::plan::turned_down;
 use super::{path_lines, spelling, write_made};
 use crate::answers;
 use crate::arguments::{Arguments, Form};
@@ -9,8 +10,10 @@ use crate::hex;
 use crate::itinerary;
 use crate::json::Json;
 use crate::mistake::{mistake, Checked};
+use crate::path_text::{self, MOST_BEHIND};
 use crate::report::{counted, Report};
-use crate::{path_text, path_words, plan, signing};
+use crate::signing::{self, Signed};
+use crate::{path_words, plan};
 use standard_path::{expiration, HeaderError};
 use std::ffi::OsStr;
 
@@ -28,9 +31,6 @@ pub const FORM: Form = Form {
     flags: &["--json", "--raw", "--hex"],
 };
 
-/// The most bytes behind a header that the text form takes.
-const MOST_BEHIND: usize = 4_096;
-
 pub fn run(arguments: &Arguments, files: &Files) -> Checked<Report> {
     match (arguments.value("--show"), arguments.place(0)) {
         (Some(_), Some(_)) => arguments.wrong("--show takes the path, and no TEXT goes with it"),
@@ -42,16 +42,19 @@ pub fn run(arguments: &Arguments, files: &Files) -> Checked<Report> {
 fn write(arguments: &Arguments, files: &Files) -> Checked<Report> {
     let name = arguments.file(0, "the file with the path's text form")?;
     let text = path_text::from_text(&files.read_text(name)?, &shown(name))?;
-    let keys: Option<Vec<[u8; 16]>> = match arguments.value("--plan") {
+    let plan = match arguments.value("--plan") {
         None => None,
-        Some(plan) => {
-            let stations = itinerary::read(&plan::read(files, plan, spelling(arguments)?)?).stations;
-            Some(stations.into_iter().map(|station| station.key).collect())
-        }
+        Some(name) => Some(plan::read(files, name, spelling(arguments)?)?),
     };
+    let stations = plan.as_deref().map(|plan| itinerary::read(plan).stations);
+    let keys: Option<Vec<_>> = stations.map(|stations| stations.iter().map(|station| station.key).collect());
     let signed = signing::sign(&text, keys.as_deref())?;
     let header = Header(&signed.bytes);
-    let mut report = Report::done("sign", "written", String::new());
+    let refused = expiration(&signed.bytes).err().map(answers::of_header_error);
+    let mut report = match &refused {
+        None => Report::done("sign", "written", String::new()),
+        Some(answer) => Report::of("sign", answer),
+    };
     report.text = format!(
         "a path of {} in {}, {} worked out\n",
         counted(header.hops(), "hop"),
@@ -62,9 +65,41 @@ fn write(arguments: &Arguments, files: &Files) -> Checked<Report> {
     report.member("infos", Json::number(header.infos()));
     report.member("macs_worked_out", Json::number(signed.worked_out));
     report.member("path", Json::text(hex::to_hex(&signed.bytes)));
-    report.notes = signed.notes;
+    if let Some(answer) = refused {
+        report
+            .notes
+            .push(format!("the library turns this header down: {}", answer.headline()));
+    }
+    if let (Some(plan), Some(keys)) = (&plan, &keys) {
+        report.notes.extend(about_plan(header, &signed, plan, keys.len()));
+    }
+    if header.hops() == 0 {
+        report
+            .notes
+            .push("the text has no hop: the header is a meta word alone".into());
+    }
+    report.notes.extend(signed.notes);
     write_made(arguments, files, &signed.bytes, &path_lines(&signed.bytes), &mut report)?;
     Ok(report)
+}
+
+/// What is odd about the plan that was given.
+fn about_plan(header: Header<'_>, signed: &Signed, plan: &[u8], stations: usize) -> Vec<String> {
+    let mut notes = Vec::new();
+    if !itinerary::fits_some_path(plan, stations) {
+        notes.push(turned_down(stations));
+    }
+    if stations != header.stations() {
+        notes.push(format!(
+            "the plan has {}, and this path asks for {} (hops - infos + 1)",
+            counted(stations, "station"),
+            header.stations()
+        ));
+    }
+    if header.hops() > 0 && signed.worked_out == 0 && signed.notes.is_empty() {
+        notes.push("--plan had no effect: each hop has a `mac` of its own".into());
+    }
+    notes
 }
 
 fn show(arguments: &Arguments, files: &Files, name: &OsStr) -> Checked<Report> {
@@ -75,15 +110,16 @@ fn show(arguments: &Arguments, files: &Files, name: &OsStr) -> Checked<Report> {
     }
     let path = files.read_path(name, spelling(arguments)?)?;
     let behind = Header(&path).parts().1.len();
+    let is_too_long = behind > MOST_BEHIND;
     let answer = match expiration(&path) {
-        Err(error @ (HeaderError::MetaTooShort | HeaderError::DataTooShort)) => {
+        Err(error) if is_too_long || error != HeaderError::TooManyHops => {
             return Ok(Report::of("sign", &answers::of_header_error(error)));
         }
         answer => answer.err().map(answers::of_header_error),
     };
-    if behind > MOST_BEHIND {
+    if is_too_long {
         return mistake(format!(
-            "{} has {behind} bytes behind its header, and the text form takes {MOST_BEHIND}: cut the file to {} bytes",
+            "{} has {behind} bytes behind its header, and the text form takes 1,048,576: cut the file to {} bytes",
             shown(name),
             Header(&path).size()
         ));
