@@ -1,7 +1,7 @@
 //! The library's answers as words, numbers and named values. Each is told as it came; none is made here.
 
 use crate::json::Json;
-use crate::sentences;
+use crate::sentences::{self, Question};
 use standard_path::{
     AdvanceError, AsRoutingAction, HeaderError, IngressNextAction, JourneyError, LocalAsRoutingAction,
     PathReverseError, Refusal, ScmpError, StandardRoutingError, Verdict,
@@ -16,6 +16,8 @@ pub struct Answer {
     pub values: Vec<(&'static str, Json)>,
     pub sentence: String,
     pub scmp: Option<ScmpError>,
+    /// The question that was answered no.
+    pub question: Option<&'static Question>,
     /// Whether the answer is one to be glad of, which ends the program with status 0.
     pub is_good: bool,
 }
@@ -28,6 +30,7 @@ impl Answer {
             values: Vec::new(),
             sentence: sentence.to_string(),
             scmp: None,
+            question: sentences::of_number(number),
             is_good: true,
         }
     }
@@ -41,6 +44,18 @@ impl Answer {
 
     fn with(mut self, name: &'static str, value: impl TryInto<u64>) -> Answer {
         self.values.push((name, Json::number(value)));
+        self
+    }
+
+    /// A step's answer, with the path that it left.
+    pub fn leaving(mut self, left: &[u8]) -> Answer {
+        self.question = sentences::of_step(self.number, &self.values, left);
+        self
+    }
+
+    /// The same of a step in a journey.
+    pub fn leaving_in_journey(mut self, left: &[u8]) -> Answer {
+        self.question = sentences::of_journey_step(self.number, &self.values, left);
         self
     }
 
@@ -68,13 +83,27 @@ impl Answer {
             let (kind, code) = (scmp.scmp_type(), scmp.code());
             lines.push(("SCMP error".into(), format!("type {kind}, code {code}, {last}")));
         }
-        lines.extend(about(self.number));
+        lines.extend(self.about());
         lines
+    }
+
+    /// The question behind a refusal, and what to do about it.
+    pub fn about(&self) -> Vec<(String, String)> {
+        let Some(question) = self.question else {
+            return Vec::new();
+        };
+        vec![
+            (
+                format!("question {}", self.number),
+                format!("{} No. {}", question.asked, question.no),
+            ),
+            ("what to do".into(), question.advice.into()),
+        ]
     }
 
     /// The members that every command's JSON object starts with.
     pub fn json(&self, command: &'static str) -> Vec<(&'static str, Json)> {
-        let question = sentences::of_number(self.number);
+        let question = self.question;
         let text = |text: Option<&'static str>| text.map_or(Json::Null, Json::text);
         vec![
             ("command", Json::text(command)),
@@ -88,20 +117,6 @@ impl Answer {
             ("what_to_do", text(question.map(|question| question.advice))),
         ]
     }
-}
-
-/// The question behind a refusal, and what to do about it.
-pub fn about(number: u16) -> Vec<(String, String)> {
-    let Some(question) = sentences::of_number(number) else {
-        return Vec::new();
-    };
-    vec![
-        (
-            format!("question {number}"),
-            format!("{} No. {}", question.asked, question.no),
-        ),
-        ("what to do".into(), question.advice.into()),
-    ]
 }
 
 fn scmp_json(scmp: ScmpError) -> Json {

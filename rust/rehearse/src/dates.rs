@@ -54,11 +54,14 @@ pub fn time(text: &str, of: &str) -> Checked<u32> {
             ))
         });
     }
-    let Some(seconds) = seconds_of_date(text) else {
-        return mistake(format!(
-            "{of}: `{text}` is no time: write seconds since 1970, or a date in UTC as 2026-11-15T06:00:00Z, \
-             2026-11-15 06:00:00 or 2026-11-15"
-        ));
+    let seconds = match seconds_of_date(text) {
+        Ok(seconds) => seconds,
+        Err(why) => {
+            return mistake(format!(
+                "{of}: `{text}` is no time{why}: write seconds since 1970, or a date in UTC as 2026-11-15T06:00:00Z, \
+                 2026-11-15 06:00:00 or 2026-11-15"
+            ))
+        }
     };
     u32::try_from(seconds).or_else(|_| {
         mistake(format!(
@@ -67,19 +70,43 @@ pub fn time(text: &str, of: &str) -> Checked<u32> {
     })
 }
 
-fn seconds_of_date(text: &str) -> Option<u64> {
-    let (date, clock) = match text.split_once(['T', ' ']) {
-        Some((date, clock)) => (date, clock.strip_suffix('Z').unwrap_or(clock)),
+/// A note on a time that is a small number, which may have been meant otherwise.
+pub fn note(text: &str, of: &str) -> Option<String> {
+    let seconds = text
+        .trim()
+        .parse()
+        .ok()
+        .filter(|&seconds: &u32| seconds < 100_000_000)?;
+    Some(format!(
+        "{of}: {seconds} is {}: a number is seconds since 1970",
+        date(seconds)
+    ))
+}
+
+/// The seconds, or why a text that has the look of a date is none.
+fn seconds_of_date(text: &str) -> Result<u64, &'static str> {
+    let (date, clock) = match text.split_once(['T', 't', ' ']) {
+        Some((date, clock)) => (date, clock.strip_suffix(['Z', 'z']).unwrap_or(clock)),
         None => (text, "00:00:00"),
     };
-    let [year, month, day] = numbers(date, '-', &[4, 2, 2])?[..] else {
-        return None;
-    };
-    let clock = numbers(clock, ':', &[2, 2, 2]).or_else(|| numbers(clock, ':', &[2, 2]))?;
+    let date = numbers(date, '-', &[4, 2, 2]).ok_or("")?;
+    let (year, month, day) = (date[0], date[1], date[2]);
+    if clock.contains(['+', '-']) || clock.ends_with(|letter: char| letter.is_ascii_alphabetic()) {
+        return Err(" (only UTC is taken, without another zone)");
+    }
+    let clock = numbers(clock, ':', &[2, 2, 2]).or_else(|| numbers(clock, ':', &[2, 2]));
+    let clock = clock.ok_or(" (the time of day is written 06:00:00 or 06:00)")?;
     let (hour, minute, second) = (clock[0], clock[1], clock.get(2).copied().unwrap_or(0));
-    let fits = year >= 1970 && (1..=12).contains(&month) && (1..=days_of_month(year, month)).contains(&day);
-    let fits = fits && hour < 24 && minute < 60 && second < 60;
-    fits.then(|| days_from_civil(year, month, day) * DAY + hour * 3_600 + minute * 60 + second)
+    if year < 1970 {
+        return Err(" (it is before 1970)");
+    }
+    if !(1..=12).contains(&month) || !(1..=days_of_month(year, month)).contains(&day) {
+        return Err(" (there is no such day)");
+    }
+    if hour > 23 || minute > 59 || second > 59 {
+        return Err(" (there is no such time of day)");
+    }
+    Ok(days_from_civil(year, month, day) * DAY + hour * 3_600 + minute * 60 + second)
 }
 
 fn days_of_month(year: u64, month: u64) -> u64 {
@@ -140,6 +167,7 @@ mod tests {
             ("2000-02-29T12:00:00Z", 951_825_600),
             ("2026-11-15 06:00:00", 1_794_722_400),
             ("2026-11-15T06:00Z", 1_794_722_400),
+            ("2026-11-15t06:00:00z", 1_794_722_400),
             ("2038-01-19T03:14:08Z", 2_147_483_648),
             ("2106-02-07T06:28:15Z", u32::MAX),
         ] {
@@ -173,6 +201,31 @@ mod tests {
             "2026-11-1é",
         ] {
             assert!(time(text, "t").is_err(), "{text}");
+        }
+        for (text, why) in [
+            ("1969-12-31", "before 1970"),
+            ("2026-02-30", "no such day"),
+            ("2026-13-01", "no such day"),
+            ("2106-02-07T06:28:16Z", "later than 2106-02-07T06:28:15Z"),
+            ("2026-11-15T24:00:00Z", "no such time of day"),
+            ("2026-11-15T06:00:00+01:00", "only UTC"),
+            ("2026-11-15 06:00 CET", "only UTC"),
+            ("2026-11-15T6:00", "written 06:00:00 or 06:00"),
+        ] {
+            let said = time(text, "t").unwrap_err().0;
+            assert!(said.contains(why), "{said}");
+        }
+    }
+
+    #[test]
+    fn a_small_number_is_noted() {
+        assert_eq!(
+            note("2026", "--now").unwrap(),
+            "--now: 2026 is 1970-01-01T00:33:46Z: a number is seconds since 1970"
+        );
+        assert!(note("99999999", "t").is_some());
+        for text in ["100000000", "2026-11-15", "x", ""] {
+            assert!(note(text, "t").is_none(), "{text}");
         }
     }
 }

@@ -29,7 +29,7 @@ pub fn stop(path: &[u8], stations: &[Station], reading: u32) -> Option<Stop> {
             answer => {
                 return Some(Stop {
                     station,
-                    answer: answers::of_step(answer),
+                    answer: answers::of_step(answer).leaving_in_journey(&path),
                 })
             }
         }

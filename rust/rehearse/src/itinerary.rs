@@ -4,6 +4,8 @@ use crate::interfaces::Interface;
 use crate::mistake::{mistake, Checked};
 use crate::plan::Station;
 use standard_path::{check_journey, JourneyError, ScionNetworkTime};
+use std::collections::HashSet;
+use std::ops::Range;
 
 const RECORD: usize = 32;
 const MOST_RECORDS: usize = 2_048;
@@ -60,13 +62,30 @@ pub fn read(bytes: &[u8]) -> Read {
             bytes.len()
         ));
     }
+    match bytes.len() / RECORD {
+        0 => remarks.push("there is no record".into()),
+        records if records > MOST_RECORDS => {
+            remarks.push(format!("there are {records} records, and 2,048 is the most"))
+        }
+        _ => {}
+    }
+    if let Some(at) = (2..RECORD.min(bytes.len())).find(|&at| bytes[at] != 0) {
+        remarks.push(format!("byte {at} of record 0 is not zero"));
+    }
     let mut left = MOST_INTERFACES;
     let chain_of_stations = chain(bytes, number(bytes, 0), "station", MOST_RECORDS, &mut remarks);
     let mut stations = Vec::new();
-    for record in chain_of_stations {
+    for &record in &chain_of_stations {
+        remarks.extend(not_zero(bytes, record, "a station", &[6..8, 24..RECORD]));
         let first = number(bytes, RECORD * record + 4);
         let interfaces = chain(bytes, first, "interface", left, &mut remarks);
         left -= interfaces.len();
+        for &record in &interfaces {
+            remarks.extend(not_zero(bytes, record, "an interface", &[5..RECORD]));
+            if chain_of_stations.binary_search(&record).is_ok() {
+                remarks.push(format!("record {record} is both a station and an interface"));
+            }
+        }
         let station = bytes[RECORD * record..][..RECORD].first_chunk::<24>();
         let key = station.and_then(|station| station[8..].try_into().ok());
         stations.push(Station {
@@ -75,8 +94,20 @@ pub fn read(bytes: &[u8]) -> Read {
             interfaces: interfaces.into_iter().map(|record| interface(bytes, record)).collect(),
         });
     }
-    remarks.dedup();
+    // Tables may share records, which are looked at once for each.
+    let mut known = HashSet::new();
+    remarks.retain(|remark| known.insert(remark.clone()));
     Read { stations, remarks }
+}
+
+/// A byte of a record that should be zero and is not.
+fn not_zero(bytes: &[u8], record: usize, of: &str, zeros: &[Range<usize>]) -> Option<String> {
+    let at = zeros
+        .iter()
+        .cloned()
+        .flatten()
+        .find(|at| bytes[RECORD * record + at] != 0)?;
+    Some(format!("byte {at} of record {record}, {of}, is not zero"))
 }
 
 fn interface(bytes: &[u8], record: usize) -> Interface {

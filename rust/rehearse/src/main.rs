@@ -23,6 +23,7 @@ mod path_text;
 mod path_words;
 mod plan;
 mod report;
+mod seen;
 mod sentences;
 mod signing;
 

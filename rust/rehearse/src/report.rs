@@ -4,6 +4,7 @@ use crate::answers::Answer;
 use crate::header::Header;
 use crate::hex::to_hex;
 use crate::json::Json;
+use std::ffi::OsStr;
 
 pub struct Report {
     pub text: String,
@@ -53,6 +54,12 @@ impl Report {
 
     pub fn member(&mut self, name: &'static str, value: Json) {
         self.json.push((name, value));
+    }
+
+    /// The file that was written.
+    pub fn written(&mut self, name: &OsStr) {
+        self.line("written", name.to_string_lossy());
+        self.member("written", Json::text(name.to_string_lossy()));
     }
 
     /// Which bytes a call changed, before and after, and the header that it left.

@@ -1,8 +1,11 @@
 //! What each number from 1 to 25 says, and what to do about it. docs/GUIDE.md has the same words in a table.
 
+use crate::header::Header;
+use crate::json::Json;
+
 /// A question of the scope document that was answered no.
 pub struct Question {
-    /// The scope document's words.
+    /// The scope document's words, where they stand alone.
     pub asked: &'static str,
     /// What a no means.
     pub no: &'static str,
@@ -16,9 +19,9 @@ const fn question(asked: &'static str, no: &'static str, advice: &'static str) -
 
 const QUESTIONS: [Question; 25] = [
     question(
-        "Table sound as above?",
-        "The interface table is not sound: at most 256 interfaces, each number above the one before it, each state below 8.",
-        "List the interfaces in ascending order of their numbers, each number once.",
+        "Interface table sound?",
+        "The interface table is not sound: ascending numbers, each once, states 0 to 7, at most 256 interfaces.",
+        "List the interfaces in ascending order of their numbers, each number once, each state from 0 to 7, at most 256 of them.",
     ),
     question(
         "At least 4 bytes?",
@@ -36,9 +39,9 @@ const QUESTIONS: [Question; 25] = [
         "Take hops out of the segments until there are 64 or fewer.",
     ),
     question(
-        "CurrHF below the hop count? (At egress also: another hop after this one?)",
-        "The path has no hop at the place that the step needs.",
-        "Set CurrHF to a hop of the path; if the place is the one behind the last hop, the path ends here and can't be left by.",
+        "CurrHF below the hop count?",
+        "CurrHF names a hop that the path does not have.",
+        "Set CurrHF to a hop of the path, counted from 0.",
     ),
     question(
         "More than one hop in this segment?",
@@ -86,9 +89,9 @@ const QUESTIONS: [Question; 25] = [
         "Add the interface to the station, or correct the hop's `in` and sign again.",
     ),
     question(
-        "Next travel egress listed? (In the whole step also: egress listed?)",
-        "The interface to leave by is not in the table.",
-        "Add the interface to the station, or correct the hop's `out` and sign again.",
+        "Next travel egress listed?",
+        "At the segment change the interface to leave by is not in the table.",
+        "Add the interface to the station, or correct the `out` of the next segment's first hop and sign again.",
     ),
     question(
         "Pair core-child, child-core, child-child, child-peer or peer-child?",
@@ -103,7 +106,8 @@ const QUESTIONS: [Question; 25] = [
     question(
         "Segment going on?",
         "The segment ends at this hop, so that the packet can't leave by it.",
-        "Give the segment the hop that is missing; a segment that is changed into needs at least two hops.",
+        "Run ingress first if the path stands at the end of a segment; else give the segment the hop that is missing: each \
+         needs at least two.",
     ),
     question(
         "Travel egress the one given?",
@@ -112,8 +116,8 @@ const QUESTIONS: [Question; 25] = [
     ),
     question(
         "First length not 0?",
-        "The path's first segment is empty, so that there is nothing to turn around.",
-        "Put the used segments first.",
+        "The first length is 0.",
+        "Put the used segments first; a path without a hop can't be turned around.",
     ),
     question(
         "CurrHF below the hop count?",
@@ -129,12 +133,13 @@ const QUESTIONS: [Question; 25] = [
         "Itinerary sound, each table too, station count = hops − infos + 1, first arrival 0, later ones not, earliest at most latest?",
         "The plan is not sound, does not fit the path, or the readings are out of order.",
         "Count one station for each hop, but one for the two hops of a segment change; write arrival 0 at the first station only, \
-         interfaces in ascending order, and the earliest reading before the latest.",
+         interfaces in ascending order, and the earliest reading before the latest. A path has 63 stations at most.",
     ),
     question(
         "CurrHF and CurrINF 0?",
         "The path does not stand at its start.",
-        "Set CurrHF and CurrINF to 0: a journey is checked from the path's first hop.",
+        "Take the path as its source sends it, CurrHF and CurrINF 0. Setting them to 0 does not do for a path on its way, or \
+         one turned around there: its SegIDs have moved.",
     ),
     question(
         "No alert bit in a hop?",
@@ -142,6 +147,54 @@ const QUESTIONS: [Question; 25] = [
         "Take away the alerts and sign again.",
     ),
 ];
+
+// ---- numbers with more than one question, or more than one thing to do
+
+const NO_HOP: Question = question(
+    "CurrHF below the hop count?",
+    "The path has no hop.",
+    "Give the path a segment with at least two hops.",
+);
+
+const ANOTHER_HOP: Question = question(
+    "Another hop after this one?",
+    "The path ends at this hop, so that the packet can't leave by it.",
+    "Call egress only before the path's last hop, and give each segment at least two hops.",
+);
+
+const EGRESS_LISTED: Question = question(
+    "Egress listed?",
+    "The interface to leave by is not in the station's table.",
+    "Add the interface to the station, or correct the hop's `out` and sign again.",
+);
+
+const MAC_IN_JOURNEY: Question = question(
+    "MAC right, or MACs ignored?",
+    "The hop's MAC is not the one that the station's key gives for its fields and the SegID.",
+    "Sign the path with this plan (`rehearse sign TEXT --plan PLAN`); if it was, compare the keys and the order of the \
+     stations with those that it was signed with.",
+);
+
+/// The question behind a step's refusal. Which of a number's questions it is, is seen in the values and the path left.
+pub fn of_step(number: u16, values: &[(&'static str, Json)], left: &[u8]) -> Option<&'static Question> {
+    let value = |name: &str| values.iter().find(|(value, _)| *value == name).map(|(_, value)| value);
+    let (header, curr_hf) = (Header(left), u64::from(Header(left).curr_hf()));
+    match number {
+        5 if header.hops() == 0 => Some(&NO_HOP),
+        5 if value("index") == Some(&Json::Number(curr_hf + 1)) => Some(&ANOTHER_HOP),
+        // At a segment change the path has moved on from the hop that is named.
+        15 if value("hop_index") == Some(&Json::Number(curr_hf)) => Some(&EGRESS_LISTED),
+        _ => of_number(number),
+    }
+}
+
+/// The question behind a step's refusal, where the step is one of a journey.
+pub fn of_journey_step(number: u16, values: &[(&'static str, Json)], left: &[u8]) -> Option<&'static Question> {
+    match number {
+        12 => Some(&MAC_IN_JOURNEY),
+        _ => of_step(number, values, left),
+    }
+}
 
 /// The question with a number, if it is one of 1 to 25.
 pub fn of_number(number: u16) -> Option<&'static Question> {
@@ -155,8 +208,14 @@ mod tests {
     #[test]
     fn the_guide_has_the_same_words() {
         let guide = include_str!("../../../docs/GUIDE.md");
-        for number in 1..=25 {
-            let Question { asked, no, advice } = of_number(number).unwrap();
+        let others = [
+            (5, &NO_HOP),
+            (5, &ANOTHER_HOP),
+            (12, &MAC_IN_JOURNEY),
+            (15, &EGRESS_LISTED),
+        ];
+        let all = (1..=25).filter_map(|number| Some((number, of_number(number)?)));
+        for (number, Question { asked, no, advice }) in all.chain(others) {
             let row = format!("| {number} | {asked} | {no} | {advice} |");
             assert!(
                 guide.lines().any(|line| line == row),

@@ -1,6 +1,7 @@
 //! `rehearse journey --batch`: many journeys, a line for each, and a summary.
 
 use super::journey::{between, check, Between, Checking};
+use super::keys;
 use crate::answers::Answer;
 use crate::arguments::Arguments;
 use crate::files::{is_plain, shown, Files};
@@ -54,7 +55,9 @@ pub fn run(arguments: &Arguments, files: &Files) -> Checked<Report> {
         is_read = is_read && output::print(&line)?;
     }
     progress.clear();
-    Ok(summary.report(entries.len()))
+    let mut report = summary.report(entries.len());
+    report.notes = between.notes;
+    Ok(report)
 }
 
 /// The list's journeys: a path and a plan on each line, between them white space, or a tab where a name has spaces.
@@ -122,7 +125,7 @@ fn one(files: &Files, entry: &Entry<'_>, between: &Between, as_json: bool, summa
         json.push(("line", Json::number(entry.line)));
         json.push(("path_file", name(0)));
         json.push(("plan_file", name(1)));
-        return format!("{}\n", Json::Object(json));
+        return format!("{}\n", keys::object(Some("journey"), json));
     }
     let said: Vec<String> = names.map(|names| names.join(" ")).into_iter().chain(why).collect();
     format!("{label:<11} {}\n", said.join(": "))

@@ -1,7 +1,7 @@
 //! `rehearse journey`: does a path travel over the stations of a plan?
 
-use super::{batch, spelling, PATH};
-use crate::answers::{self, about, Answer};
+use super::{batch, reading, spelling, PATH};
+use crate::answers::{self, Answer};
 use crate::arguments::{Arguments, Form};
 use crate::dates;
 use crate::drive;
@@ -12,7 +12,8 @@ use crate::json::Json;
 use crate::mistake::Checked;
 use crate::plan;
 use crate::report::{counted, Report};
-use standard_path::{check_journey, ScionNetworkTime, Verdict};
+use crate::seen;
+use standard_path::{check_journey, JourneyError, ScionNetworkTime, Verdict};
 use std::ffi::OsStr;
 
 pub const FORM: Form = Form {
@@ -31,6 +32,8 @@ pub struct Between {
     pub earliest: u32,
     pub latest: u32,
     pub spelling: Spelling,
+    /// What is odd about the readings.
+    pub notes: Vec<String>,
 }
 
 pub fn run(arguments: &Arguments, files: &Files) -> Checked<Report> {
@@ -39,14 +42,19 @@ pub fn run(arguments: &Arguments, files: &Files) -> Checked<Report> {
     }
     let path = arguments.file(0, PATH)?;
     let plan = arguments.file(1, "the file with the plan, as bytes, as hex or in its text form")?;
-    Ok(check(files, path, plan, &between(arguments)?)?.report)
+    let between = between(arguments)?;
+    let mut report = check(files, path, plan, &between)?.report;
+    report.notes = between.notes;
+    Ok(report)
 }
 
 pub fn between(arguments: &Arguments) -> Checked<Between> {
+    let mut notes = Vec::new();
     Ok(Between {
-        earliest: dates::time(arguments.needed("--earliest")?, "--earliest")?,
-        latest: dates::time(arguments.needed("--latest")?, "--latest")?,
+        earliest: reading(arguments, "--earliest", &mut notes)?,
+        latest: reading(arguments, "--latest", &mut notes)?,
         spelling: spelling(arguments)?,
+        notes,
     })
 }
 
@@ -64,6 +72,7 @@ pub fn check(files: &Files, path: &OsStr, plan: &OsStr, between: &Between) -> Ch
         earliest,
         latest,
         spelling,
+        ..
     } = between;
     let path = files.read_path(path, spelling)?;
     let plan = plan::read(files, plan, spelling)?;
@@ -72,7 +81,8 @@ pub fn check(files: &Files, path: &OsStr, plan: &OsStr, between: &Between) -> Ch
     let answer = answers::of_journey(verdict);
 
     let mut report = Report::of("journey", &answer);
-    let (header, stations) = (Header(&path), itinerary::read(&plan).stations);
+    let (header, read) = (Header(&path), itinerary::read(&plan));
+    let stations = &read.stations;
     let (hops, infos) = (header.hops(), header.infos());
     report.line(
         "path",
@@ -89,11 +99,18 @@ pub fn check(files: &Files, path: &OsStr, plan: &OsStr, between: &Between) -> Ch
     report.member("earliest", Json::number(earliest));
     report.member("latest", Json::number(latest));
     let stop = match verdict {
-        Ok(Verdict::NotPassed) => where_it_stops(&path, &stations, [earliest, latest], &mut report),
+        Ok(Verdict::NotPassed) => where_it_stops(&path, stations, [earliest, latest], &mut report),
         _ => None,
     };
     let (stop, stops) = stop.unzip();
     report.member("stops", stops.unwrap_or(Json::Null));
+    if verdict == Err(JourneyError::UnfitItinerary) {
+        let seen = seen::in_plan(header, &read, earliest, latest);
+        for (at, line) in seen.iter().enumerate() {
+            report.line(if at == 0 { "seen in plan" } else { "" }, line);
+        }
+        report.member("seen", Json::List(seen.into_iter().map(Json::Text).collect()));
+    }
     Ok(Checking { answer, report, stop })
 }
 
@@ -114,7 +131,7 @@ fn where_it_stops(
             format!("at station {station}, with every clock at {}", dates::both(reading)),
         );
         report.line("", answer.headline());
-        report.lines(&about(answer.number));
+        report.lines(&answer.about());
         return Some(((station, answer.number), stop_json(station, reading, &answer)));
     }
     None

@@ -4,6 +4,7 @@ mod batch;
 mod demo;
 mod expiration;
 mod journey;
+mod keys;
 mod plan;
 mod reverse;
 mod show;
@@ -11,6 +12,7 @@ mod sign;
 mod step;
 
 use crate::arguments::{Arguments, Form};
+use crate::dates;
 use crate::files::{Files, Spelling};
 use crate::hex;
 use crate::json::Json;
@@ -112,7 +114,7 @@ pub fn run(words: &[OsString], files: &Files) -> Said {
         return said(command.help);
     }
     match Arguments::read(command.form, words).and_then(|arguments| (command.run)(&arguments, files)) {
-        Ok(report) => finished(report, as_json),
+        Ok(report) => finished(command.form.command, report, as_json),
         Err(mistake) => wrong(Some(command.form.command), &mistake, as_json),
     }
 }
@@ -125,7 +127,7 @@ fn said(text: &str) -> Said {
     }
 }
 
-fn finished(report: Report, as_json: bool) -> Said {
+fn finished(command: &str, report: Report, as_json: bool) -> Said {
     let Report {
         text,
         mut json,
@@ -135,7 +137,7 @@ fn finished(report: Report, as_json: bool) -> Said {
     if as_json {
         json.push(("notes", Json::List(notes.into_iter().map(Json::Text).collect())));
         return Said {
-            out: format!("{}\n", Json::Object(json)),
+            out: format!("{}\n", keys::object(Some(command), json)),
             err: String::new(),
             status,
         };
@@ -146,7 +148,7 @@ fn finished(report: Report, as_json: bool) -> Said {
 
 /// A mistake in the call: a sentence on standard error, with `--json` an object as well.
 fn wrong(command: Option<&'static str>, mistake: &Mistake, as_json: bool) -> Said {
-    let object = || format!("{}\n", Json::Object(mistake.json(command)));
+    let object = || format!("{}\n", keys::object(command, mistake.json(command)));
     Said {
         out: if as_json { object() } else { String::new() },
         err: format!("rehearse: {}\n", mistake.0),
@@ -171,6 +173,14 @@ fn read_path(arguments: &Arguments, files: &Files) -> Checked<Vec<u8>> {
     files.read_path(arguments.file(0, PATH)?, spelling(arguments)?)
 }
 
+/// The reading of a clock, and a note if it may have been meant otherwise.
+fn reading(arguments: &Arguments, name: &str, notes: &mut Vec<String>) -> Checked<u32> {
+    let text = arguments.needed(name)?;
+    let seconds = dates::time(text, name)?;
+    notes.extend(dates::note(text, name));
+    Ok(seconds)
+}
+
 /// Writes the path that a call left, where the call asks for it.
 fn write_path(arguments: &Arguments, files: &Files, path: &[u8], report: &mut Report) -> Checked<()> {
     if let Some(name) = arguments.value("--write") {
@@ -178,7 +188,7 @@ fn write_path(arguments: &Arguments, files: &Files, path: &[u8], report: &mut Re
             return arguments.wrong("--write takes a file; the header that is left is printed anyway");
         }
         files.write(name, path, &path_lines(path))?;
-        report.line("written", name.to_string_lossy());
+        report.written(name);
     }
     Ok(())
 }
@@ -204,7 +214,7 @@ fn write_made(arguments: &Arguments, files: &Files, bytes: &[u8], hex: &str, rep
         }
         Some(name) => {
             files.write(name, bytes, hex)?;
-            report.line("written", name.to_string_lossy());
+            report.written(name);
         }
     }
     Ok(())

@@ -1,12 +1,13 @@
 //! `rehearse step`, `rehearse ingress` and `rehearse egress`: what one station does with a packet.
 
-use super::{read_path, write_path};
+use super::{read_path, reading, write_path};
 use crate::answers::{self, Answer};
 use crate::arguments::{Arguments, Form};
 use crate::dates;
 use crate::files::Files;
 use crate::hex;
 use crate::interfaces;
+use crate::json::Json;
 use crate::mistake::{mistake, Checked};
 use crate::report::Report;
 use standard_path::{
@@ -39,29 +40,36 @@ pub const EGRESS: Form = form("egress");
 /// What a station is given beside the path.
 struct At<'a> {
     interface: u16,
-    now: ScionNetworkTime,
+    /// The reading of its clock.
+    now: u32,
     key: ForwardingKey,
     table: Interfaces<'a>,
     ignore_macs: bool,
 }
 
+impl At<'_> {
+    fn now(&self) -> ScionNetworkTime {
+        ScionNetworkTime::from_timestamp_secs(self.now)
+    }
+}
+
 pub fn whole(arguments: &Arguments, files: &Files) -> Checked<Report> {
     call("step", arguments, files, |path, at| {
-        let answer = handle_standard_path(path, at.interface, at.now, &at.key, at.table, at.ignore_macs);
+        let answer = handle_standard_path(path, at.interface, at.now(), &at.key, at.table, at.ignore_macs);
         answers::of_step(answer)
     })
 }
 
 pub fn ingress(arguments: &Arguments, files: &Files) -> Checked<Report> {
     call("ingress", arguments, files, |path, at| {
-        let answer = standard_path_ingress(path, at.interface, at.now, &at.key, at.table, at.ignore_macs);
+        let answer = standard_path_ingress(path, at.interface, at.now(), &at.key, at.table, at.ignore_macs);
         answers::of_ingress(answer)
     })
 }
 
 pub fn egress(arguments: &Arguments, files: &Files) -> Checked<Report> {
     call("egress", arguments, files, |path, at| {
-        let answer = standard_path_egress(path, at.interface, at.now, &at.key, at.table, at.ignore_macs);
+        let answer = standard_path_egress(path, at.interface, at.now(), &at.key, at.table, at.ignore_macs);
         answers::of_step(answer)
     })
 }
@@ -76,10 +84,11 @@ fn call(
     arguments.needed("--table")?;
     let table = interfaces::table(files, arguments.value("--table").unwrap_or_default())?;
     let (ids, states): (Vec<u16>, Vec<u8>) = table.into_iter().unzip();
+    let mut notes = Vec::new();
     let at = At {
         key: key(files, arguments.needed("--key")?)?,
         interface: arguments.interface("--interface")?,
-        now: ScionNetworkTime::from_timestamp_secs(dates::time(arguments.needed("--now")?, "--now")?),
+        now: reading(arguments, "--now", &mut notes)?,
         table: Interfaces {
             ids: &ids,
             states: &states,
@@ -87,8 +96,11 @@ fn call(
         ignore_macs: arguments.flag("--ignore-macs"),
     };
     let mut path = before.clone();
-    let answer = library(&mut path, &at);
+    let answer = library(&mut path, &at).leaving(&path);
     let mut report = Report::of(command, &answer);
+    report.line("now", dates::both(at.now));
+    report.member("now", Json::number(at.now));
+    report.notes = notes;
     report.path_left(&before, &path);
     write_path(arguments, files, &path, &mut report)?;
     Ok(report)
