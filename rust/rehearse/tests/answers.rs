@@ -148,12 +148,18 @@ fn inputs_are_the_same_in_every_form() {
 
     let step = folder.run(&format!("step good.path {HALL_A}")).out;
     for other in [
-        "--table table.txt --key @key --interface 0 --now 2026-11-16T06:05:00Z",
+        "--table table.txt --key @key --interface 0 --now 2026-11-16t06:05:00z",
         "--table @table.txt --key @key.hex --interface 0 --now=1794809100",
         "--now 2026-11-16T06:05Z --interface=0 --key 30A1F2C4B5D697E8091A2B3C4D5E6F70 --table=1:state:5",
     ] {
         assert_eq!(folder.run(&format!("step good.path {other}")).out, step, "{other}");
     }
+
+    let mut words: Vec<&str> = "step good.path --table 1:parent:up --interface 0 --now 1794809100 --key"
+        .split(' ')
+        .collect();
+    words.push("30a1f2c4 b5d697e8 091a2b3c 4d5e6f70");
+    assert_eq!(folder.call(&words, b"").out, step);
 
     let journey = folder.run(&format!("journey good.path site.plan {READINGS}")).out;
     folder.run("plan plan.txt -o plan.hex");

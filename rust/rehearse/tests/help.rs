@@ -25,7 +25,7 @@ fn stored(name: &str) -> String {
 #[test]
 fn help_is_given_on_every_level() {
     let folder = Folder::new();
-    for call in ["--help", "-h", "help"] {
+    for call in ["--help", "-h", "help", "help help"] {
         let ran = folder.run(call);
         assert_eq!(
             (ran.status, ran.out, ran.err),
@@ -53,6 +53,7 @@ fn help_is_given_on_every_level() {
         }
     }
     assert_eq!(folder.run("--version").out, "rehearse 0.1.0\n");
+    assert_eq!(folder.run("-V").out, "rehearse 0.1.0\n");
 }
 
 /// The calls behind `    $ rehearse`, each with its going on behind a backslash.
@@ -72,16 +73,36 @@ fn each_example_runs() {
         );
         let examples = examples(&help);
         assert!(!examples.is_empty(), "{name} has no example");
-        for example in examples {
-            let folder = Folder::with_site();
-            let output = std::process::Command::new("sh")
-                .args(["-c", &example.replace("rehearse ", &format!("{} ", common::PROGRAM))])
-                .current_dir(&folder.0)
-                .output()
-                .unwrap();
-            assert!(output.status.success(), "{example}: {output:?}");
-        }
+        // They can be typed one after the other, from an empty folder on.
+        let (folder, typed) = (Folder::new(), examples.join(" && "));
+        let output = std::process::Command::new("sh")
+            .args(["-c", &typed.replace("rehearse ", &format!("{} ", common::PROGRAM))])
+            .current_dir(&folder.0)
+            .output()
+            .unwrap();
+        assert!(
+            output.status.success() && output.stderr.is_empty(),
+            "{typed}: {output:?}"
+        );
     }
+}
+
+/// The text forms that the helps show can be copied as they stand.
+#[test]
+fn each_text_form_in_a_help_can_be_copied() {
+    let folder = Folder::with_site();
+    for (name, first, call) in [
+        ("plan", "    station\n", "plan text -o out"),
+        ("sign", "    path\n", "sign text --plan site.plan -o out"),
+    ] {
+        let help = stored(name);
+        let from = &help[help.find(first).unwrap()..];
+        folder.write("text", &from[..from.find("\n\n").unwrap()]);
+        let ran = folder.run(call);
+        assert_eq!(ran.status, 0, "{name}: {}", ran.err);
+    }
+    assert!(stored("show").contains("rehearse show good.path"));
+    assert!(folder.run("show good.path").out.contains("hop 0 "));
 }
 
 #[test]

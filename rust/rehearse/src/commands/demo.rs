@@ -1,5 +1,6 @@
 //! `rehearse demo`: the example site of the repository, run and explained.
 
+use super::Said;
 use crate::arguments::{Arguments, Form};
 use crate::files::Files;
 use crate::json::Json;
@@ -20,6 +21,13 @@ const FILES: [(&str, &str); 3] = [
     ("plan.txt", include_str!("../../../../examples/site/plan.txt")),
     ("good.txt", include_str!("../../../../examples/site/good.txt")),
     ("late.txt", include_str!("../../../../examples/site/late.txt")),
+];
+
+/// The calls that make the other files of the example.
+const MADE: [(&str, &str); 3] = [
+    ("site.plan", "plan plan.txt -o site.plan"),
+    ("good.path", "sign good.txt --plan site.plan -o good.path"),
+    ("late.path", "sign late.txt --plan site.plan -o late.path"),
 ];
 
 /// What is said, and the call behind it.
@@ -66,7 +74,7 @@ pub fn run(arguments: &Arguments, _files: &Files) -> Checked<Report> {
 }
 
 fn show() -> Report {
-    let files = Files::in_memory();
+    let files = site();
     let mut text = String::from(
         "A cold store with two halls: hall A sends orders over the core of the site to the shuttle desk of hall B.\n\n\
          This is its plan, plan.txt: four stations, each with the interface that a packet arrives by, its key and its\n\
@@ -75,14 +83,9 @@ fn show() -> Report {
     text += &indented(FILES[0].1);
     text += "\nAnd this is a path over it, good.txt: five hops in two segments.\n\n";
     text += &indented(FILES[1].1);
-    for (name, content) in FILES {
-        // The memory takes every file.
-        let _ = files.write(OsStr::new(name), content.as_bytes(), "");
-    }
     let mut steps = Vec::new();
     for (said, call) in STEPS {
-        let words: Vec<OsString> = call.split(' ').map(OsString::from).collect();
-        let answer = super::run(&words, &files);
+        let answer = typed(call, &files);
         text += &format!(
             "\n{said}\n\n    $ rehearse {call}\n{}{}",
             indented(&answer.out),
@@ -94,11 +97,39 @@ fn show() -> Report {
             ("text", Json::text(answer.out)),
         ]));
     }
-    text += "\nTo try it yourself: `rehearse demo --write site` writes plan.txt, good.txt and late.txt into a folder, and\n\
-             the calls above run there. docs/GUIDE.md goes on from here.\n";
+    text +=
+        "\nTo try it yourself: `rehearse demo --write site` writes these files into a folder, and the calls above\n\
+             run there. docs/GUIDE.md goes on from here.\n";
     let mut report = Report::done("demo", "shown", text);
     report.member("steps", Json::List(steps));
     report
+}
+
+/// The example's texts, in memory.
+fn site() -> Files {
+    let files = Files::in_memory();
+    for (name, content) in FILES {
+        // The memory takes every file.
+        let _ = files.write(OsStr::new(name), content.as_bytes(), "");
+    }
+    files
+}
+
+fn typed(call: &str, files: &Files) -> Said {
+    let words: Vec<OsString> = call.split(' ').map(OsString::from).collect();
+    super::run(&words, files)
+}
+
+/// All files of the example: the texts, and what is made of them.
+fn all_files() -> Checked<Vec<(&'static str, Vec<u8>)>> {
+    let files = site();
+    let texts = FILES.map(|(name, content)| (name, content.as_bytes().to_vec()));
+    let mut all = Vec::from(texts);
+    for (name, call) in MADE {
+        typed(call, &files);
+        all.push((name, files.read(OsStr::new(name))?));
+    }
+    Ok(all)
 }
 
 fn indented(text: &str) -> String {
@@ -123,24 +154,25 @@ fn write(folder: &OsStr) -> Checked<Report> {
     if let Err(error) = std::fs::create_dir_all(folder) {
         return failed(error);
     }
-    let is_other = |&(name, content): &(&str, &str)| {
+    let files = all_files()?;
+    let is_other = |(name, content): &&(&str, Vec<u8>)| {
         let there = std::fs::read(folder.join(name));
-        there.is_ok_and(|there| there != content.as_bytes())
+        there.is_ok_and(|there| there != *content)
     };
-    if let Some((name, _)) = FILES.iter().find(|file| is_other(file)) {
+    if let Some((name, _)) = files.iter().find(is_other) {
         return mistake(format!(
             "{} is there already and is not the example's: name another folder",
             folder.join(name).display()
         ));
     }
-    for (name, content) in FILES {
+    for (name, content) in &files {
         if let Err(error) = std::fs::write(folder.join(name), content) {
             return failed(error);
         }
     }
-    let names = FILES.map(|(name, _)| name);
+    let names: Vec<&str> = files.iter().map(|&(name, _)| name).collect();
     let text = format!("{} written to {}\n", names.join(", "), folder.display());
     let mut report = Report::done("demo", "written", text);
-    report.member("files", Json::List(names.map(Json::text).into()));
+    report.member("files", Json::List(names.into_iter().map(Json::text).collect()));
     Ok(report)
 }

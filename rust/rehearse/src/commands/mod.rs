@@ -98,8 +98,8 @@ pub fn run(words: &[OsString], files: &Files) -> Said {
     };
     let name = match first.to_str() {
         Some("--help" | "-h") => return said(HELP),
-        Some("--version") => return said(concat!("rehearse ", env!("CARGO_PKG_VERSION"), "\n")),
-        Some("help") if words.len() == 1 => return said(HELP),
+        Some("--version" | "-V") => return said(concat!("rehearse ", env!("CARGO_PKG_VERSION"), "\n")),
+        Some("help") if words.len() == 1 || words[1] == "help" => return said(HELP),
         Some("help") => &words[1],
         _ => first,
     };

@@ -108,7 +108,8 @@ fn call(
 
 fn key(files: &Files, given: &str) -> Checked<ForwardingKey> {
     let Some(name) = given.strip_prefix('@') else {
-        return hex::exactly(given, "--key").or_else(|_| {
+        let digits: String = given.split_whitespace().collect();
+        return hex::exactly(&digits, "--key").or_else(|_| {
             mistake(format!(
                 "--key: `{given}` is no key: write 32 hex digits, or @ and the name of a file with the key"
             ))
