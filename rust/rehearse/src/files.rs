@@ -60,7 +60,9 @@ impl Files {
                 }
                 // A file behind standard input has a name there too, where the system tells it.
                 let place = if is_input { OsStr::new("/dev/stdin") } else { name };
-                read.borrow_mut().extend(fs::canonicalize(place));
+                // Devices are left out: a terminal may be both read and written.
+                let place = fs::canonicalize(place).ok().filter(|place| place.is_file());
+                read.borrow_mut().extend(place);
                 match is_input {
                     true => read_within(io::stdin().lock(), name),
                     false => read_file(name),

@@ -95,7 +95,7 @@ fn what_is_odd_about_a_header_is_said() {
         (status, &said[..]),
         (
             0,
-            &["the text has no hop: the header is a meta word alone".to_string()][..]
+            &["the text has no hop: the header is the 4 bytes of a meta word".to_string()][..]
         )
     );
 

@@ -278,6 +278,9 @@ fn a_command_s_objects_have_the_same_names() {
         }
         assert!(first.is_some(), "{command}");
     }
+    let shown = parse(&folder.run("plan --show short --json").out);
+    assert_eq!((shown.text("answer"), shown.number("number")), ("refused", Some(23)));
+    assert!(shown.text("what_to_do").starts_with("Count one station"), "{shown:?}");
     let written = |call: &str| {
         parse(&folder.run(&format!("{call} --json")).out)
             .text("written")

@@ -1,6 +1,7 @@
 //! `rehearse plan`: a site plan from its text form into bytes, and back.
 
 use super::{spelling, write_made};
+use crate::answers;
 use crate::arguments::{Arguments, Form};
 use crate::files::{shown, Files};
 use crate::hex;
@@ -9,6 +10,7 @@ use crate::json::Json;
 use crate::mistake::Checked;
 use crate::plan;
 use crate::report::{counted, Report};
+use standard_path::JourneyError;
 use std::ffi::OsStr;
 
 pub const FORM: Form = Form {
@@ -78,11 +80,10 @@ fn show(arguments: &Arguments, files: &Files, name: &OsStr) -> Checked<Report> {
     if itinerary::to_bytes(&read.stations).ok().as_ref() != Some(&bytes) {
         remarks.push("the records are laid out otherwise than `rehearse plan` lays out this text".into());
     }
-    let mut report = Report::done("plan", if fits { "shown" } else { "refused" }, String::new());
-    if !fits {
-        report.json[2].1 = Json::Number(23);
-        report.status = 1;
-    }
+    let mut report = match fits {
+        true => Report::done("plan", "shown", String::new()),
+        false => Report::of("plan", &answers::of_journey(Err(JourneyError::UnfitItinerary))),
+    };
     let comments: String = remarks.iter().map(|remark| format!("# {remark}\n")).collect();
     let text = plan::to_text(&read.stations);
     report.text = comments + &text;

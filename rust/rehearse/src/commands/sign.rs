@@ -76,7 +76,7 @@ fn write(arguments: &Arguments, files: &Files) -> Checked<Report> {
     if header.hops() == 0 {
         report
             .notes
-            .push("the text has no hop: the header is a meta word alone".into());
+            .push("the text has no hop: the header is the 4 bytes of a meta word".into());
     }
     report.notes.extend(signed.notes);
     write_made(arguments, files, &signed.bytes, &path_lines(&signed.bytes), &mut report)?;
