@@ -5,7 +5,6 @@ use crate::mistake::{mistake, Checked};
 use crate::plan::Station;
 use standard_path::{check_journey, JourneyError, ScionNetworkTime};
 use std::collections::HashSet;
-use std::ops::Range;
 
 const RECORD: usize = 32;
 const MOST_RECORDS: usize = 2_048;
@@ -76,12 +75,12 @@ pub fn read(bytes: &[u8]) -> Read {
     let chain_of_stations = chain(bytes, number(bytes, 0), "station", MOST_RECORDS, &mut remarks);
     let mut stations = Vec::new();
     for &record in &chain_of_stations {
-        remarks.extend(not_zero(bytes, record, "a station", &[6..8, 24..RECORD]));
+        remarks.extend(not_zero(bytes, record, "a station", (6..8).chain(24..RECORD)));
         let first = number(bytes, RECORD * record + 4);
         let interfaces = chain(bytes, first, "interface", left, &mut remarks);
         left -= interfaces.len();
         for &record in &interfaces {
-            remarks.extend(not_zero(bytes, record, "an interface", &[5..RECORD]));
+            remarks.extend(not_zero(bytes, record, "an interface", 5..RECORD));
             if chain_of_stations.binary_search(&record).is_ok() {
                 remarks.push(format!("record {record} is both a station and an interface"));
             }
@@ -101,12 +100,8 @@ pub fn read(bytes: &[u8]) -> Read {
 }
 
 /// A byte of a record that should be zero and is not.
-fn not_zero(bytes: &[u8], record: usize, of: &str, zeros: &[Range<usize>]) -> Option<String> {
-    let at = zeros
-        .iter()
-        .cloned()
-        .flatten()
-        .find(|at| bytes[RECORD * record + at] != 0)?;
+fn not_zero(bytes: &[u8], record: usize, of: &str, mut zeros: impl Iterator<Item = usize>) -> Option<String> {
+    let at = zeros.find(|at| bytes[RECORD * record + at] != 0)?;
     Some(format!("byte {at} of record {record}, {of}, is not zero"))
 }
 
