@@ -4,7 +4,7 @@ use crate::hex;
 use crate::kinds::{self, Kind};
 use crate::mistake::{mistake, Checked};
 use std::cell::{Cell, RefCell};
-use std::collections::BTreeMap;
+use std::collections::{BTreeMap, BTreeSet};
 use std::ffi::{OsStr, OsString};
 use std::fs;
 use std::io::{self, ErrorKind, Read};
@@ -18,7 +18,7 @@ pub enum Files {
         /// Whether standard input has been read, which can be done once.
         input_read: Cell<bool>,
         /// The files that were read, by their full names: none of them is written.
-        read: RefCell<Vec<PathBuf>>,
+        read: RefCell<BTreeSet<PathBuf>>,
     },
     Memory(RefCell<BTreeMap<OsString, Vec<u8>>>),
 }

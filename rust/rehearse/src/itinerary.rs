@@ -12,6 +12,9 @@ const MOST_RECORDS: usize = 2_048;
 /// The most interfaces that are read of one plan: more than all stations of a path can have.
 const MOST_INTERFACES: usize = 64 * 256;
 
+/// The most remarks on one plan: whoever reads them starts with the first.
+const MOST_REMARKS: usize = 20;
+
 /// The bytes: record 0, a record for each station, a record for each interface, all in order.
 pub fn to_bytes(stations: &[Station]) -> Checked<Vec<u8>> {
     let interfaces: usize = stations.iter().map(|station| station.interfaces.len()).sum();
@@ -96,6 +99,11 @@ pub fn read(bytes: &[u8]) -> Read {
     // Tables may share records, which are looked at once for each.
     let mut known = HashSet::new();
     remarks.retain(|remark| known.insert(remark.clone()));
+    let more = remarks.len().saturating_sub(MOST_REMARKS);
+    if more > 0 {
+        remarks.truncate(MOST_REMARKS);
+        remarks.push(format!("and {more} more remarks"));
+    }
     Read { stations, remarks }
 }
 
@@ -173,6 +181,24 @@ mod tests {
                 "{count}"
             );
         }
+    }
+
+    #[test]
+    fn remarks_have_an_end() {
+        let station = |arrival| Station {
+            arrival,
+            key: [0; 16],
+            interfaces: vec![],
+        };
+        let stations: Vec<Station> = (0..100).map(station).collect();
+        let mut bytes = to_bytes(&stations).unwrap();
+        for record in bytes.chunks_mut(RECORD) {
+            record[31] = 1;
+        }
+        let read = read(&bytes);
+        assert_eq!((read.stations.len(), read.remarks.len()), (100, MOST_REMARKS + 1));
+        assert_eq!(read.remarks[1], "byte 31 of record 1, a station, is not zero");
+        assert_eq!(read.remarks[MOST_REMARKS], "and 81 more remarks");
     }
 
     /// A thousand stations that share a chain of a thousand interfaces: what is read of them has an end.

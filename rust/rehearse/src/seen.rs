@@ -7,7 +7,13 @@ use crate::report::counted;
 
 pub fn in_plan(header: Header<'_>, read: &Read, earliest: u32, latest: u32) -> Vec<String> {
     let stations = &read.stations;
-    let arrivals: Vec<String> = stations.iter().map(|station| station.arrival.to_string()).collect();
+    let mut arrivals: Vec<String> = stations.iter().map(|station| station.arrival.to_string()).collect();
+    // No path has more stations than that, so that the count says enough of the others.
+    let more = arrivals.len().saturating_sub(63);
+    if more > 0 {
+        arrivals.truncate(63);
+        arrivals.push(format!("and {more} more"));
+    }
     let mut seen = vec![
         format!(
             "{}; the path asks for {} (hops - infos + 1)",
@@ -16,7 +22,7 @@ pub fn in_plan(header: Header<'_>, read: &Read, earliest: u32, latest: u32) -> V
         ),
         format!("arrivals {}", or_none(arrivals)),
     ];
-    for (at, station) in stations.iter().enumerate() {
+    for (at, station) in stations.iter().enumerate().take(63) {
         match (at, station.arrival) {
             (0, 0) => {}
             (0, arrival) => seen.push(format!("station 0, the first, arrives by {arrival} and not by 0")),
@@ -24,7 +30,7 @@ pub fn in_plan(header: Header<'_>, read: &Read, earliest: u32, latest: u32) -> V
             _ => {}
         }
     }
-    let tables: Vec<String> = stations.iter().enumerate().filter_map(table).collect();
+    let tables: Vec<String> = stations.iter().enumerate().filter_map(table).take(20).collect();
     if tables.is_empty() {
         seen.push("each station's interfaces are in order".into());
     }
