@@ -1,7 +1,9 @@
 //! The library's answers as words, numbers and named values. Each is told as it came; none is made here.
 
+use crate::header::{Header, Hop, Info};
+use crate::hop_words;
 use crate::json::Json;
-use crate::sentences::{self, Question};
+use crate::sentences::{self, Call, Question};
 use standard_path::{
     AdvanceError, AsRoutingAction, HeaderError, IngressNextAction, JourneyError, LocalAsRoutingAction,
     PathReverseError, Refusal, ScmpError, StandardRoutingError, Verdict,
@@ -18,12 +20,14 @@ pub struct Answer {
     pub scmp: Option<ScmpError>,
     /// The question that was answered no.
     pub question: Option<&'static Question>,
+    /// The hops that a refusal is about, each with its index and info field.
+    pub hops: Vec<(usize, Info, Hop)>,
     /// Whether the answer is one to be glad of, which ends the program with status 0.
     pub is_good: bool,
 }
 
 impl Answer {
-    fn good(word: &'static str, number: u16, sentence: impl ToString) -> Answer {
+    fn new(is_good: bool, word: &'static str, number: u16, sentence: impl ToString) -> Answer {
         Answer {
             word,
             number,
@@ -31,15 +35,17 @@ impl Answer {
             sentence: sentence.to_string(),
             scmp: None,
             question: sentences::of_number(number),
-            is_good: true,
+            hops: Vec::new(),
+            is_good,
         }
     }
 
+    fn good(word: &'static str, number: u16, sentence: impl ToString) -> Answer {
+        Answer::new(true, word, number, sentence)
+    }
+
     fn refused(number: u16, sentence: impl ToString) -> Answer {
-        Answer {
-            is_good: false,
-            ..Answer::good("refused", number, sentence)
-        }
+        Answer::new(false, "refused", number, sentence)
     }
 
     fn with(mut self, name: &'static str, value: impl TryInto<u64>) -> Answer {
@@ -47,15 +53,19 @@ impl Answer {
         self
     }
 
-    /// A step's answer, with the path that it left.
-    pub fn leaving(mut self, left: &[u8]) -> Answer {
-        self.question = sentences::of_step(self.number, &self.values, left);
-        self
-    }
-
-    /// The same of a step in a journey.
-    pub fn leaving_in_journey(mut self, left: &[u8]) -> Answer {
-        self.question = sentences::of_journey_step(self.number, &self.values, left);
+    /// The answer of a call that was given one path and left another: its question, and the hops that it is about.
+    pub fn of_call(mut self, call: Call, before: &[u8], left: &[u8]) -> Answer {
+        self.question = sentences::of_call(call, self.number, &self.values, left);
+        let Some(("hop_index", Json::Number(index))) = self.values.first() else {
+            return self;
+        };
+        let (first, header) = (*index as usize, Header(before));
+        // 13 to 16 name the first of the two hops of a segment change, and the path has moved on to the second.
+        let is_change = matches!(self.number, 13..=16) && *index != u64::from(Header(left).curr_hf());
+        let hops = (first..).take(if is_change { 2 } else { 1 });
+        self.hops = hops
+            .filter_map(|index| header.hop_in_step(index).map(|(info, hop)| (index, info, hop)))
+            .collect();
         self
     }
 
@@ -87,18 +97,30 @@ impl Answer {
         lines
     }
 
-    /// The question behind a refusal, and what to do about it.
+    /// The hops and the question behind a refusal, and what to do about it.
     pub fn about(&self) -> Vec<(String, String)> {
-        let Some(question) = self.question else {
-            return Vec::new();
-        };
-        vec![
-            (
+        let mut lines = Vec::new();
+        for (index, info, hop) in &self.hops {
+            lines.push((format!("hop {index}"), hop_words::words(info, hop)));
+            lines.push((String::new(), hop_words::segment_words(info)));
+        }
+        if let Some(question) = self.question {
+            lines.push((
                 format!("question {}", self.number),
                 format!("{} No. {}", question.asked, question.no),
-            ),
-            ("what to do".into(), question.advice.into()),
-        ]
+            ));
+            lines.push(("what to do".into(), question.advice.into()));
+        }
+        lines
+    }
+
+    /// The hops that a refusal is about, as `show` has them.
+    pub fn hops_json(&self) -> Json {
+        let hops = self.hops.iter();
+        Json::List(
+            hops.map(|(index, info, hop)| hop_words::json(*index, info, hop))
+                .collect(),
+        )
     }
 
     /// The members that every command's JSON object starts with.
@@ -169,10 +191,7 @@ fn of_action(action: AsRoutingAction) -> Answer {
 }
 
 fn alert(word: &'static str, number: u16, action: AsRoutingAction, interface: u16) -> Answer {
-    Answer {
-        is_good: false,
-        ..Answer::good(word, number, action).with("interface", interface)
-    }
+    Answer::new(false, word, number, action).with("interface", interface)
 }
 
 fn of_refusal(refusal: Refusal) -> Answer {
@@ -255,7 +274,8 @@ pub fn of_reversal(answer: Result<(), PathReverseError>) -> Answer {
 pub fn of_expiration(answer: Result<u32, HeaderError>) -> Answer {
     match answer {
         Ok(0) => {
-            Answer::good("expiration", 111, "the path has no used segment, so its time is 0").with("expiration", 0u8)
+            let sentence = "no segment stands before the first empty one, so that the time is 0";
+            Answer::good("expiration", 111, sentence).with("expiration", 0u8)
         }
         Ok(time) => {
             let sentence = format!("the path ends at {}", crate::dates::both(time));
@@ -272,10 +292,7 @@ pub fn of_header_error(error: HeaderError) -> Answer {
 pub fn of_journey(answer: Result<Verdict, JourneyError>) -> Answer {
     match answer {
         Ok(verdict @ Verdict::Passed) => Answer::good("passed", verdict.number(), verdict),
-        Ok(verdict @ Verdict::NotPassed) => Answer {
-            is_good: false,
-            ..Answer::good("not_passed", verdict.number(), verdict)
-        },
+        Ok(verdict @ Verdict::NotPassed) => Answer::new(false, "not_passed", verdict.number(), verdict),
         Err(error) => Answer::refused(error.number(), error),
     }
 }

@@ -1,6 +1,7 @@
 //! The words of a call, taken apart by what its command takes.
 
 use crate::mistake::{mistake, Checked, Mistake};
+use crate::nearest::nearest;
 use std::ffi::{OsStr, OsString};
 
 /// What a command takes.
@@ -38,13 +39,19 @@ impl Arguments {
                 Some(option) if !options_end && option.starts_with('-') && option != "-" => {
                     read.option(option, &mut words)?;
                 }
+                None if !options_end && word.to_string_lossy().starts_with('-') => {
+                    return read.wrong(format!(
+                        "`{}` is no UTF-8: write a value behind its option, with a space between",
+                        word.to_string_lossy()
+                    ));
+                }
                 _ => read.places.push(word.clone()),
             }
         }
         match read.places.get(form.places.len()) {
             None => Ok(read),
             Some(word) => read.wrong(format!(
-                "`{}` is one word too many; a file name with spaces goes between quotes",
+                "`{}` is one word too many; a file name or a date with a space goes between quotes",
                 word.to_string_lossy()
             )),
         }
@@ -63,7 +70,7 @@ impl Arguments {
             return Ok(());
         }
         let Some(&(name, what)) = self.form.values.iter().find(|&&(value, _)| value == name) else {
-            return self.wrong(format!("{name} is not an option of this command"));
+            return self.wrong(format!("{name} is not an option of this command{}", self.meant(name)));
         };
         let behind = || words.next().filter(|word| !self.is_option(word)).cloned();
         let Some(value) = given.or_else(behind) else {
@@ -76,11 +83,25 @@ impl Arguments {
         Ok(())
     }
 
+    /// What may have been meant. Commands differ in how they name the file to write.
+    fn meant(&self, name: &str) -> String {
+        let mut options = self.form.values.iter().map(|(option, _)| *option);
+        let meant = match name {
+            "-o" | "--out" | "--output" | "--write" => options.find(|option| matches!(*option, "-o" | "--write")),
+            _ => nearest(name, options.chain(self.form.flags.iter().copied())),
+        };
+        match meant {
+            Some(option) => format!(", but {option} is"),
+            None if name.starts_with("--") => String::new(),
+            None => format!("; a file of that name is written ./{name}"),
+        }
+    }
+
     /// Whether a word is an option to the eye. As a value it has to be given as `--option=VALUE`.
     fn is_option(&self, word: &OsStr) -> bool {
         let word = word.to_string_lossy();
         let name = word.split('=').next().unwrap_or("");
-        let is_short = self.form.values.iter().any(|(option, _)| *option == name) || name == "-h";
+        let is_short = self.form.values.iter().any(|(option, _)| *option == name);
         name.starts_with("--") || is_short
     }
 
@@ -99,17 +120,23 @@ impl Arguments {
         given.map(|(_, value)| value.as_os_str())
     }
 
-    /// The text of an option that the command can't do without.
-    pub fn needed(&self, name: &str) -> Checked<&str> {
+    /// The value of an option that the command can't do without.
+    pub fn given(&self, name: &str) -> Checked<&OsStr> {
         match self.value(name) {
-            Some(value) => value
-                .to_str()
-                .ok_or_else(|| Mistake(format!("{name}: `{}` is no text", value.to_string_lossy()))),
+            Some(value) => Ok(value),
             None => {
                 let what = self.form.values.iter().find(|&&(value, _)| value == name);
                 self.wrong(format!("{name} is missing ({})", what.map_or("", |(_, what)| what)))
             }
         }
+    }
+
+    /// The same as text.
+    pub fn needed(&self, name: &str) -> Checked<&str> {
+        let value = self.given(name)?;
+        value
+            .to_str()
+            .ok_or_else(|| Mistake(format!("{name}: `{}` is no text", value.to_string_lossy())))
     }
 
     pub fn place(&self, at: usize) -> Option<&OsStr> {
@@ -127,17 +154,19 @@ impl Arguments {
         }
     }
 
-    /// A whole number from 0 to 65535.
+    /// An interface's number.
     pub fn interface(&self, name: &str) -> Checked<u16> {
+        self.number(name, "interface number")
+    }
+
+    /// A whole number from 0 to 65535; `what` is its name in a mistake.
+    pub fn number(&self, name: &str, what: &str) -> Checked<u16> {
         let text = self.needed(name)?;
-        let number = text.parse().ok().filter(|_| !text.starts_with('+'));
-        number.map_or_else(
-            || {
-                mistake(format!(
-                    "{name}: `{text}` is no interface number: write a whole number from 0 to 65535"
-                ))
-            },
-            Ok,
-        )
+        match text.parse().ok().filter(|_| !text.starts_with('+')) {
+            Some(number) => Ok(number),
+            None => mistake(format!(
+                "{name}: `{text}` is no {what}: write a whole number from 0 to 65535"
+            )),
+        }
     }
 }

@@ -86,7 +86,7 @@ pub fn note(text: &str, of: &str) -> Option<String> {
 /// The seconds, or why a text that has the look of a date is none.
 fn seconds_of_date(text: &str) -> Result<u64, &'static str> {
     let (date, clock) = match text.split_once(['T', 't', ' ']) {
-        Some((date, clock)) => (date, clock.strip_suffix(['Z', 'z']).unwrap_or(clock)),
+        Some((date, clock)) => (date, without_zone(clock)),
         None => (text, "00:00:00"),
     };
     let date = numbers(date, '-', &[4, 2, 2]).ok_or("")?;
@@ -107,6 +107,12 @@ fn seconds_of_date(text: &str) -> Result<u64, &'static str> {
         return Err(" (there is no such time of day)");
     }
     Ok(days_from_civil(year, month, day) * DAY + hour * 3_600 + minute * 60 + second)
+}
+
+/// The time of day without the sign for UTC.
+fn without_zone(clock: &str) -> &str {
+    let without = clock.strip_suffix(['Z', 'z']).or_else(|| clock.strip_suffix("+00:00"));
+    without.unwrap_or(clock)
 }
 
 fn days_of_month(year: u64, month: u64) -> u64 {
@@ -168,6 +174,7 @@ mod tests {
             ("2026-11-15 06:00:00", 1_794_722_400),
             ("2026-11-15T06:00Z", 1_794_722_400),
             ("2026-11-15t06:00:00z", 1_794_722_400),
+            ("2026-11-15T06:00:00+00:00", 1_794_722_400),
             ("2038-01-19T03:14:08Z", 2_147_483_648),
             ("2106-02-07T06:28:15Z", u32::MAX),
         ] {

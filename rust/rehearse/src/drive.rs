@@ -2,7 +2,9 @@
 //! reading. The journey check has the verdict; this only finds the place to look at.
 
 use crate::answers::{self, Answer};
+use crate::header::Header;
 use crate::plan::Station;
+use crate::sentences::Call;
 use standard_path::{handle_standard_path, AsRoutingAction, Interfaces, LocalAsRoutingAction, ScionNetworkTime};
 
 /// The station, counted from 0, and its answer.
@@ -13,7 +15,8 @@ pub struct Stop {
 
 /// The first station that does not send the path on, or at the last that does not deliver it.
 pub fn stop(path: &[u8], stations: &[Station], reading: u32) -> Option<Stop> {
-    let mut path = path.to_vec();
+    // The step reads and writes the header alone.
+    let mut path = Header(path).parts().0.to_vec();
     let now = ScionNetworkTime::from_timestamp_secs(reading);
     for (station, at) in stations.iter().enumerate() {
         let (ids, states): (Vec<u16>, Vec<u8>) = at.interfaces.iter().copied().unzip();
@@ -21,6 +24,7 @@ pub fn stop(path: &[u8], stations: &[Station], reading: u32) -> Option<Stop> {
             ids: &ids,
             states: &states,
         };
+        let before = path.clone();
         let answer = handle_standard_path(&mut path, at.arrival, now, &at.key, table, false);
         let is_last = station + 1 == stations.len();
         match answer {
@@ -29,7 +33,7 @@ pub fn stop(path: &[u8], stations: &[Station], reading: u32) -> Option<Stop> {
             answer => {
                 return Some(Stop {
                     station,
-                    answer: answers::of_step(answer).leaving_in_journey(&path),
+                    answer: answers::of_step(answer).of_call(Call::Journey, &before, &path),
                 })
             }
         }

@@ -8,7 +8,7 @@ use std::collections::{BTreeMap, BTreeSet};
 use std::ffi::{OsStr, OsString};
 use std::fs;
 use std::io::{self, ErrorKind, Read};
-use std::path::PathBuf;
+use std::path::{Path, PathBuf};
 
 /// The most bytes that are read of a file: far more than any header or plan has.
 pub const LIMIT: u64 = 64 * 1024 * 1024;
@@ -74,12 +74,15 @@ impl Files {
     /// A file of text in UTF-8.
     pub fn read_text(&self, name: &OsStr) -> Checked<String> {
         let bytes = self.read(name)?;
-        match String::from_utf8(bytes) {
-            Ok(text) if is_plain(&text) => Ok(text.strip_prefix('\u{feff}').unwrap_or(&text).to_owned()),
-            _ => mistake(format!(
-                "{} is no text: give the text form that the command's --help describes",
-                shown(name)
-            )),
+        match plain_text(&bytes) {
+            Some(text) => Ok(text),
+            None => mistake(match other_letters(&bytes) {
+                Some(why) => format!("{} {why}", shown(name)),
+                None => format!(
+                    "{} is no text: give the text form that the command's --help describes; `--show` turns bytes into it",
+                    shown(name)
+                ),
+            }),
         }
     }
 
@@ -89,9 +92,9 @@ impl Files {
         if let Some(read) = spelled(&bytes, spelling, name) {
             return read;
         }
-        match std::str::from_utf8(&bytes) {
-            Ok(text) if is_plain(text) => mistake(no_header(text, name)),
-            _ => Ok(bytes),
+        match plain_text(&bytes) {
+            Some(text) => mistake(no_header(&text, name)),
+            None => as_bytes(bytes, name),
         }
     }
 
@@ -114,7 +117,13 @@ impl Files {
                         shown(name)
                     ));
                 }
-                fs::write(name, content).or_else(|error| {
+                if is_text_form(name) {
+                    return mistake(format!(
+                        "{} has the text form of a path or plan, and writing would lose it: name another file to write",
+                        shown(name)
+                    ));
+                }
+                write_whole(Path::new(name), content).or_else(|error| {
                     mistake(format!(
                         "{} can't be written ({error}): name a file in a folder that you may write to",
                         shown(name)
@@ -123,6 +132,30 @@ impl Files {
             }
         }
     }
+}
+
+/// Writes all of a file, or leaves what is there: beside it first, and then in its place. A device is written as it is.
+pub fn write_whole(name: &Path, content: &[u8]) -> io::Result<()> {
+    let place = fs::canonicalize(name).unwrap_or_else(|_| name.into());
+    let about = fs::metadata(&place).ok();
+    if about.as_ref().is_some_and(|about| !about.is_file()) {
+        return fs::write(&place, content);
+    }
+    if about.is_some() {
+        // Whoever may not write the file may not put another in its place.
+        fs::OpenOptions::new().write(true).open(&place)?;
+    }
+    let mut beside = place.clone().into_os_string();
+    beside.push(format!(".{}.part", std::process::id()));
+    let written = fs::write(&beside, content).and_then(|()| match &about {
+        Some(about) => fs::set_permissions(&beside, about.permissions()),
+        None => Ok(()),
+    });
+    let written = written.and_then(|()| fs::rename(&beside, &place));
+    if written.is_err() {
+        let _ = fs::remove_file(&beside);
+    }
+    written
 }
 
 /// What to say of a text that is given as a path.
@@ -146,13 +179,14 @@ pub fn almost_hex(of: &str, why: &str) -> String {
     format!("{of}: {why} (--raw takes the file as it is)")
 }
 
-/// The bytes as raw or hex, or nothing if they have to be looked at further.
+/// The bytes as raw or hex, or nothing if they have to be looked at further. Some editors put a byte order mark before hex.
 pub fn spelled(bytes: &[u8], spelling: Spelling, name: &OsStr) -> Option<Checked<Vec<u8>>> {
+    let text = bytes.strip_prefix("\u{feff}".as_bytes()).unwrap_or(bytes);
     match spelling {
         Spelling::Raw => Some(Ok(bytes.to_vec())),
-        Spelling::Hex => Some(hex::from_hex(bytes, &shown(name))),
-        Spelling::ByContent if hex::is_hex(bytes) => Some(
-            hex::from_hex(bytes, &shown(name))
+        Spelling::Hex => Some(hex::from_hex(text, &shown(name))),
+        Spelling::ByContent if hex::is_hex(text) => Some(
+            hex::from_hex(text, &shown(name))
                 .or_else(|why| mistake(format!("{} (--raw takes the file as it is)", why.0))),
         ),
         Spelling::ByContent => None,
@@ -163,6 +197,54 @@ pub fn spelled(bytes: &[u8], spelling: Spelling, name: &OsStr) -> Option<Checked
 pub fn is_plain(text: &str) -> bool {
     text.chars()
         .all(|letter| !letter.is_control() || matches!(letter, '\t' | '\n' | '\r'))
+}
+
+/// Text in UTF-8, a line ending in a line feed however it was written, or nothing if it is none.
+pub fn plain_text(bytes: &[u8]) -> Option<String> {
+    let text = std::str::from_utf8(bytes).ok().filter(|text| is_plain(text))?;
+    let text = text.strip_prefix('\u{feff}').unwrap_or(text);
+    Some(text.replace("\r\n", "\n").replace('\r', "\n"))
+}
+
+/// What to say of text that is not in UTF-8. Neither a sound plan nor a header with reserved bits of zero is taken for it:
+/// both have a byte among their first two that no text has.
+fn other_letters(bytes: &[u8]) -> Option<String> {
+    if bytes.starts_with(&[0xff, 0xfe]) || bytes.starts_with(&[0xfe, 0xff]) {
+        return Some("is text in UTF-16: save it as UTF-8".into());
+    }
+    let at = std::str::from_utf8(bytes).err()?.valid_up_to();
+    let is_ascii = |byte: &&u8| matches!(byte, b'\t' | b'\n' | b'\r' | b' '..=b'~');
+    let ascii = bytes.iter().filter(is_ascii).count();
+    let others = bytes.iter().filter(|&&byte| byte >= 0x80).count();
+    if ascii + others < bytes.len() || ascii < 3 * others {
+        return None;
+    }
+    let line = bytes[..at].split(|&byte| byte == b'\n').count();
+    Some(format!(
+        "is text, but not in UTF-8: line {line} has the byte {:02x}: save it as UTF-8",
+        bytes[at]
+    ))
+}
+
+/// Bytes that are no text are taken as they are, but for text in other letters.
+pub fn as_bytes(bytes: Vec<u8>, name: &OsStr) -> Checked<Vec<u8>> {
+    match other_letters(&bytes) {
+        Some(why) => mistake(format!("{} {why} (--raw takes the file as it is)", shown(name))),
+        None => Ok(bytes),
+    }
+}
+
+/// Whether a file is there that somebody has written by hand. Its first words tell.
+fn is_text_form(name: &OsStr) -> bool {
+    let is_file = fs::metadata(name).is_ok_and(|about| about.is_file());
+    let mut start = Vec::new();
+    let read = |file: fs::File| file.take(65_536).read_to_end(&mut start);
+    if !is_file || fs::File::open(name).and_then(read).is_err() {
+        return false;
+    }
+    let text = String::from_utf8_lossy(&start);
+    let text = text.strip_prefix('\u{feff}').unwrap_or(&text);
+    matches!(kinds::of(text), Kind::Plan | Kind::Path)
 }
 
 /// A file's name as it is shown.

@@ -82,6 +82,16 @@ impl<'a> Header<'a> {
         Some(Hop { bytes: *bytes })
     }
 
+    /// A hop with the info field that the step takes for it, the one at its segment's place among the three.
+    pub fn hop_in_step(&self, index: usize) -> Option<(Info, Hop)> {
+        let segments = self.segments();
+        let segment = segments.iter().rev().find(|segment| segment.first_hop <= index)?;
+        Some((
+            self.info(segment.place).filter(|_| segment.place < self.infos())?,
+            self.hop(index)?,
+        ))
+    }
+
     pub fn segments(&self) -> Vec<Segment> {
         let (mut segments, mut first_hop) = (Vec::new(), 0);
         for (place, hops) in self
@@ -100,6 +110,11 @@ impl<'a> Header<'a> {
             first_hop += hops;
         }
         segments
+    }
+
+    /// Whether a length of 0 stands before another.
+    pub fn has_gap(&self) -> bool {
+        self.segments().iter().any(|segment| segment.place != segment.info)
     }
 
     /// The header's own bytes, as far as they are there, and those behind it.
@@ -189,22 +204,12 @@ impl Hop {
 
     /// The interfaces in travel direction: in, out.
     pub fn travel(&self, cons_dir: bool) -> [u16; 2] {
-        let [ingress, egress] = self.interfaces();
-        if cons_dir {
-            [ingress, egress]
-        } else {
-            [egress, ingress]
-        }
+        turned(cons_dir, self.interfaces())
     }
 
     /// The alerts in travel direction: in, out.
     pub fn alerts(&self, cons_dir: bool) -> [bool; 2] {
-        let [ingress, egress] = [self.bytes[0] & 2 != 0, self.bytes[0] & 1 != 0];
-        if cons_dir {
-            [ingress, egress]
-        } else {
-            [egress, ingress]
-        }
+        turned(cons_dir, [self.bytes[0] & 2 != 0, self.bytes[0] & 1 != 0])
     }
 
     pub fn mac(&self) -> [u8; 6] {
@@ -217,6 +222,15 @@ impl Hop {
         alone.extend(info.bytes);
         alone.extend(self.bytes);
         expiration(&alone).ok()
+    }
+}
+
+/// Two things of a hop in construction direction as they come in travel direction, and the other way round.
+pub fn turned<T>(cons_dir: bool, [first, second]: [T; 2]) -> [T; 2] {
+    if cons_dir {
+        [first, second]
+    } else {
+        [second, first]
     }
 }
 

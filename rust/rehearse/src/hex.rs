@@ -21,7 +21,6 @@ pub fn first_wrong(text: &[u8]) -> Option<String> {
     let place = before.iter().rev().take_while(|&&byte| byte != b'\n').count() + 1;
     let letter = String::from_utf8_lossy(&rest[..rest.len().min(4)]).chars().next();
     let name = match letter {
-        Some('\u{feff}') => "a byte order mark".into(),
         Some(letter) if !letter.is_control() && letter != char::REPLACEMENT_CHARACTER => format!("`{letter}`"),
         _ => format!("the byte {:02x}", text[at]),
     };
@@ -49,7 +48,15 @@ pub fn from_hex(text: &[u8], of: &str) -> Checked<Vec<u8>> {
 
 /// So many bytes from hex digits without white space.
 pub fn exactly<const N: usize>(text: &str, of: &str) -> Checked<[u8; N]> {
-    let wrong = || mistake(format!("{of}: `{text}` is not {} hex digits", 2 * N));
+    let wrong = || {
+        let letter = text.chars().find(|letter| !letter.is_ascii_hexdigit());
+        let why = match letter {
+            _ if text.starts_with("0x") => "leave out the `0x`".into(),
+            Some(letter) => format!("`{letter}` is none"),
+            None => format!("there are {}", text.len()),
+        };
+        mistake(format!("{of}: `{text}` is not {} hex digits: {why}", 2 * N))
+    };
     if text.len() != 2 * N || !text.bytes().all(|byte| byte.is_ascii_hexdigit()) {
         return wrong();
     }

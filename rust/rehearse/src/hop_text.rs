@@ -35,7 +35,7 @@ pub fn hop(line: &Line<'_>) -> Checked<HopText> {
     let mut alerts = [false; 2];
     for pair in line.words[1..].chunks(2) {
         let &[name, word] = pair else {
-            return line.wrong(HOP);
+            return line.wrong(format!("`{}` has nothing behind it: {HOP}", pair[0]));
         };
         match (name, word) {
             ("in", word) => once(&mut into, line.number_up_to(word, u16::MAX)?, line, "`in`")?,
@@ -51,11 +51,17 @@ pub fn hop(line: &Line<'_>) -> Checked<HopText> {
             ("alert", "egress") => alerts[1] = true,
             ("reserved_flags", word) => once(&mut flags, reserved_flags(line, word)?, line, "`reserved_flags`")?,
             ("mac", word) => once(&mut mac, line.hex(word)?, line, "`mac`")?,
-            _ => return line.wrong(HOP),
+            ("alert", _) => return line.wrong(format!("`alert {word}` is not known here: {HOP}")),
+            _ => return line.wrong(format!("`{name}` is not known here: {HOP}")),
         }
     }
     let (Some(into), Some(out), Some(exp_time)) = (into, out, exp_time) else {
-        return line.wrong(HOP);
+        let lacks = match (into, out) {
+            (None, _) => "in",
+            (_, None) => "out",
+            _ => "lasts",
+        };
+        return line.wrong(format!("this hop has no `{lacks}`: {HOP}"));
     };
     Ok(HopText {
         place: line.place(),

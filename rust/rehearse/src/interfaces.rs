@@ -50,9 +50,12 @@ pub fn table(files: &Files, given: &OsStr) -> Checked<Vec<Interface>> {
 }
 
 fn from_file(files: &Files, name: &OsStr) -> Checked<Vec<Interface>> {
-    let (text, shown) = (files.read_text(name)?, crate::files::shown(name));
+    let text = files.read_text(name);
+    let text = text.or_else(|why| mistake(format!("--table: {}; in place a table is written 1:child:up", why.0)))?;
+    let shown = crate::files::shown(name);
     let read = lines(&text, &shown).map(|line| match line.words[..] {
         ["interface", ref words @ ..] => from_words(&line, words),
+        ["station"] => line.wrong("this is a plan and no table: take a station of it with `--plan PLAN --station 0`"),
         _ => line.wrong(EXAMPLE),
     });
     read.collect()
@@ -68,7 +71,7 @@ fn from_inline(entry: &str) -> Checked<Interface> {
     from_words(&line, &words).or_else(|_| {
         mistake(format!(
             "--table: `{entry}` is no interface: write 1:child:up, with commas between interfaces, or name a file with \
-             lines as `interface 1 child up`"
+             lines as `interface 1 child up`, with @ before its name if that has a colon"
         ))
     })
 }

@@ -3,6 +3,7 @@
 use crate::interfaces::Interface;
 use crate::mistake::{mistake, Checked};
 use crate::plan::Station;
+use crate::seen;
 use standard_path::{check_journey, JourneyError, ScionNetworkTime};
 use std::collections::HashSet;
 
@@ -11,9 +12,6 @@ const MOST_RECORDS: usize = 2_048;
 
 /// The most interfaces that are read of one plan: more than all stations of a path can have.
 const MOST_INTERFACES: usize = 64 * 256;
-
-/// The most remarks on one plan: whoever reads them starts with the first.
-const MOST_REMARKS: usize = 20;
 
 /// The bytes: record 0, a record for each station, a record for each interface, all in order.
 pub fn to_bytes(stations: &[Station]) -> Checked<Vec<u8>> {
@@ -99,11 +97,7 @@ pub fn read(bytes: &[u8]) -> Read {
     // Tables may share records, which are looked at once for each.
     let mut known = HashSet::new();
     remarks.retain(|remark| known.insert(remark.clone()));
-    let more = remarks.len().saturating_sub(MOST_REMARKS);
-    if more > 0 {
-        remarks.truncate(MOST_REMARKS);
-        remarks.push(format!("and {more} more remarks"));
-    }
+    let remarks = seen::first(remarks);
     Read { stations, remarks }
 }
 
@@ -196,9 +190,9 @@ mod tests {
             record[31] = 1;
         }
         let read = read(&bytes);
-        assert_eq!((read.stations.len(), read.remarks.len()), (100, MOST_REMARKS + 1));
+        assert_eq!((read.stations.len(), read.remarks.len()), (100, 21));
         assert_eq!(read.remarks[1], "byte 31 of record 1, a station, is not zero");
-        assert_eq!(read.remarks[MOST_REMARKS], "and 81 more remarks");
+        assert_eq!(read.remarks[20], "and 81 more");
     }
 
     /// A thousand stations that share a chain of a thousand interfaces: what is read of them has an end.

@@ -14,12 +14,11 @@ pub enum Kind {
 }
 
 pub fn of(text: &str) -> Kind {
-    let said = text.strip_prefix('\u{feff}').unwrap_or(text);
-    let first = lines(said, "").next().map(|line| line.words[0]);
-    match (first, hex::first_wrong(text.as_bytes())) {
+    let first = lines(text, "").next().map(|line| line.words[0].to_ascii_lowercase());
+    match (first.as_deref(), hex::first_wrong(text.as_bytes())) {
         (Some("station"), _) => Kind::Plan,
         (Some("path" | "segment" | "behind"), _) => Kind::Path,
-        (_, Some(why)) if is_mostly_hex(said) => Kind::AlmostHex(why),
+        (_, Some(why)) if is_mostly_hex(text) => Kind::AlmostHex(why),
         _ => Kind::Other,
     }
 }
@@ -41,13 +40,12 @@ mod tests {
     #[test]
     fn texts_are_told_apart() {
         assert!(matches!(of("# a\n\nstation\n"), Kind::Plan));
-        assert!(matches!(of("\u{feff}segment none\n"), Kind::Path));
+        assert!(matches!(of("Segment none\n"), Kind::Path));
         for (text, place) in [
             ("0000 20g3 0000", "character 8 of line 1 is `g`"),
             ("0x00002083", "character 2 of line 1 is `x`"),
             ("0x00, 0x00, 0x20", "character 2 of line 1 is `x`"),
             ("00:00:20:83", "character 3 of line 1 is `:`"),
-            ("\u{feff}00002083", "character 1 of line 1 is a byte order mark"),
             ("# a header of mine\n00002083\n", "character 1 of line 1 is `#`"),
             ("00002083\n 00é0\n", "character 4 of line 2 is `é`"),
             (

@@ -24,10 +24,34 @@ pub fn lines<'a>(text: &'a str, of: &'a str) -> impl Iterator<Item = Line<'a>> {
         .filter(|line| !line.words.is_empty())
 }
 
+/// The words that lines of both text forms start with.
+const FIRST: [&str; 16] = [
+    "station",
+    "arrival",
+    "key",
+    "interface",
+    "path",
+    "curr_inf",
+    "curr_hf",
+    "reserved",
+    "reserved_flags",
+    "segment",
+    "cons_dir",
+    "peering",
+    "seg_id",
+    "beta",
+    "timestamp",
+    "hop",
+];
+
 impl<'a> Line<'a> {
     /// A mistake in this line; `write` is what to write instead.
     pub fn wrong<T>(&self, write: impl AsRef<str>) -> Checked<T> {
-        mistake(format!("{}, line {}: {}", self.of, self.number, write.as_ref()))
+        let first = self.words.first().map(|word| word.to_ascii_lowercase());
+        match first.filter(|first| self.words[0] != first && FIRST.contains(&first.as_str())) {
+            Some(word) => mistake(format!("{}: write `{word}` in small letters", self.place())),
+            None => mistake(format!("{}: {}", self.place(), write.as_ref())),
+        }
     }
 
     /// Where this line is, for mistakes about one of its words.

@@ -21,38 +21,63 @@ pub fn complain(text: &str) {
     let _ = io::stderr().lock().write_all(text.as_bytes());
 }
 
-/// How far a long list has come, shown on a terminal only, and ten times a second at most.
-pub struct Progress {
+/// Back to the start of a terminal's line, which is emptied.
+const CLEAR: &str = "\r\x1b[K";
+
+/// Prints a long list. On a terminal a line at the bottom says how far it has come, ten times a second at most.
+pub struct Lines {
     of: usize,
     is_terminal: bool,
-    last: Option<Instant>,
-    is_shown: bool,
+    /// Whether the list goes to the terminal too, where that line would stand in the middle of it.
+    shares_screen: bool,
+    drawn: Option<Instant>,
+    /// What is to be printed when the line is drawn the next time.
+    held: String,
+    has_reader: bool,
 }
 
-impl Progress {
-    pub fn of(of: usize) -> Progress {
-        Progress {
+impl Lines {
+    pub fn of(of: usize) -> Lines {
+        let is_terminal = io::stderr().is_terminal();
+        Lines {
             of,
-            is_terminal: io::stderr().is_terminal(),
-            last: None,
-            is_shown: false,
+            is_terminal,
+            shares_screen: is_terminal && io::stdout().is_terminal(),
+            drawn: None,
+            held: String::new(),
+            has_reader: true,
         }
     }
 
-    pub fn at(&mut self, done: usize) {
-        let is_due = |last: Instant| last.elapsed() >= Duration::from_millis(100);
-        if self.is_terminal && self.last.is_none_or(is_due) {
-            complain(&format!("\r\x1b[K{done} of {}", self.of));
-            self.last = Some(Instant::now());
-            self.is_shown = true;
+    /// Prints a line, the last of so many.
+    pub fn print(&mut self, line: &str, done: usize) -> Checked<()> {
+        self.held += line;
+        let is_old = |drawn: Instant| drawn.elapsed() >= Duration::from_millis(100);
+        let is_due = self.is_terminal && self.drawn.is_none_or(is_old);
+        if is_due || !self.shares_screen {
+            self.release()?;
         }
+        if is_due {
+            complain(&format!("{CLEAR}{done} of {}", self.of));
+            self.drawn = Some(Instant::now());
+        }
+        Ok(())
     }
 
-    /// Takes the line away, before something else is written on the screen.
-    pub fn clear(&mut self) {
-        if self.is_shown {
-            complain("\r\x1b[K");
-            self.is_shown = false;
+    /// Takes the line at the bottom away, and prints what is still held.
+    pub fn finish(mut self) -> Checked<()> {
+        if self.drawn.is_some() {
+            complain(CLEAR);
         }
+        self.release()
+    }
+
+    fn release(&mut self) -> Checked<()> {
+        if self.shares_screen && self.drawn.is_some() {
+            complain(CLEAR);
+        }
+        let held = std::mem::take(&mut self.held);
+        self.has_reader = self.has_reader && print(&held)?;
+        Ok(())
     }
 }

@@ -25,6 +25,8 @@ pub struct SegmentText {
     pub reserved: u8,
     pub start: Start,
     pub timestamp: u32,
+    /// What is odd about the timestamp.
+    pub note: Option<String>,
     pub hops: Vec<HopText>,
 }
 
@@ -52,6 +54,7 @@ struct Draft {
     peering: Option<bool>,
     start: Option<Start>,
     timestamp: Option<u32>,
+    note: Option<String>,
     hops: Vec<HopText>,
 }
 
@@ -94,8 +97,17 @@ impl Draft {
                 once(&mut self.start, start, line, "`seg_id` or `beta`")
             }
             ("timestamp", true) => {
-                let time = dates::time(&line.words[1..].join(" "), &line.place())?;
-                once(&mut self.timestamp, time, line, "`timestamp`")
+                let text = line.words[1..].join(" ");
+                if text.is_empty() {
+                    return line.wrong("write a time behind `timestamp`, as `timestamp 2026-11-15T06:00:00Z`");
+                }
+                self.note = dates::note(&text, &line.place());
+                once(
+                    &mut self.timestamp,
+                    dates::time(&text, &line.place())?,
+                    line,
+                    "`timestamp`",
+                )
             }
             ("hop", true) if self.hops.len() == 63 => {
                 line.wrong("this is hop 64 of the segment, and its length can't say more than 63")
@@ -132,6 +144,7 @@ impl Draft {
                 reserved: self.reserved.unwrap_or(0),
                 start: self.start.unwrap_or(Start::Beta(0)),
                 timestamp,
+                note: self.note,
                 hops: self.hops,
             }),
         }

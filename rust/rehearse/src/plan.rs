@@ -1,6 +1,6 @@
 //! A site plan: its stations, and the text form in which people write them.
 
-use crate::files::{almost_hex, is_plain, shown, spelled, Files, Spelling};
+use crate::files::{almost_hex, as_bytes, plain_text, shown, spelled, Files, Spelling};
 use crate::hex::to_hex;
 use crate::interfaces::{self, Interface};
 use crate::itinerary;
@@ -46,12 +46,12 @@ impl Draft {
     }
 
     fn finished(self, of: &str) -> Checked<Station> {
-        let lacks = |what: &str| mistake(format!("{of}, line {}: this station has no {what} below it", self.line));
+        let lacks = |what: &str| mistake(format!("{of}, line {}: this station has no {what}", self.line));
         match (self.arrival, self.key) {
-            (None, _) => {
-                lacks("`arrival`: add `arrival 0` to the first station, the interface's number to a later one")
-            }
-            (_, None) => lacks("`key`: add `key` and 32 hex digits"),
+            (None, _) => lacks(
+                "`arrival`: add `arrival 0` below the first station, `arrival` and the interface's number below a later one",
+            ),
+            (_, None) => lacks("`key`: add `key` and 32 hex digits below it"),
             (Some(arrival), Some(key)) => Ok(Station {
                 arrival,
                 key,
@@ -107,14 +107,11 @@ pub fn read(files: &Files, name: &OsStr, spelling: Spelling) -> Checked<Vec<u8>>
     if let Some(read) = spelled(&bytes, spelling, name) {
         return read;
     }
-    match std::str::from_utf8(&bytes) {
-        Ok(text) if is_plain(text) => match kinds::of(text) {
+    match plain_text(&bytes) {
+        Some(text) => match kinds::of(&text) {
             Kind::AlmostHex(why) => mistake(almost_hex(&shown(name), &why)),
-            _ => {
-                let text = text.strip_prefix('\u{feff}').unwrap_or(text);
-                itinerary::to_bytes(&from_text(text, &shown(name))?)
-            }
+            _ => itinerary::to_bytes(&from_text(&text, &shown(name))?),
         },
-        _ => Ok(bytes),
+        None => as_bytes(bytes, name),
     }
 }

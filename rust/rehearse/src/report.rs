@@ -17,14 +17,19 @@ pub struct Report {
 impl Report {
     /// An answer of the library, with its details.
     pub fn of(command: &'static str, answer: &Answer) -> Report {
-        let mut report = Report {
+        let mut report = Report::headed(command, answer);
+        report.lines(&answer.details());
+        report
+    }
+
+    /// An answer of the library, its details to come.
+    pub fn headed(command: &'static str, answer: &Answer) -> Report {
+        Report {
             text: format!("{}\n", answer.headline()),
             json: answer.json(command),
             notes: Vec::new(),
             status: u8::from(!answer.is_good),
-        };
-        report.lines(&answer.details());
-        report
+        }
     }
 
     /// Something that was done, or shown, without an answer of the library.
@@ -50,6 +55,16 @@ impl Report {
         for (name, text) in lines {
             self.line(name, text);
         }
+    }
+
+    /// Sentences one below the other, and as a list of that name. Gives the first.
+    pub fn list(&mut self, label: &str, name: &'static str, sentences: Vec<String>) -> Option<String> {
+        for (at, sentence) in sentences.iter().enumerate() {
+            self.line(if at == 0 { label } else { "" }, sentence);
+        }
+        let first = sentences.first().cloned();
+        self.member(name, Json::List(sentences.into_iter().map(Json::Text).collect()));
+        first
     }
 
     pub fn member(&mut self, name: &'static str, value: Json) {

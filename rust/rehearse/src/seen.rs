@@ -1,61 +1,125 @@
-//! What is seen in a plan, to look at beside question 23. The verdict is the library's; nothing here is asked for it.
+//! What is seen in a path and a plan, to look at beside the library's answer. Nothing here is asked for a verdict.
 
 use crate::header::Header;
-use crate::itinerary::Read;
+use crate::itinerary::{self, Read};
 use crate::plan::Station;
 use crate::report::counted;
+use standard_path::JourneyError;
 
-pub fn in_plan(header: Header<'_>, read: &Read, earliest: u32, latest: u32) -> Vec<String> {
-    let stations = &read.stations;
-    let mut arrivals: Vec<String> = stations.iter().map(|station| station.arrival.to_string()).collect();
-    // No path has more stations than that, so that the count says enough of the others.
-    let more = arrivals.len().saturating_sub(63);
+/// The most sentences of one kind: whoever reads them starts with the first.
+const MOST: usize = 20;
+
+/// The first of a long list of sentences, and how many more there are.
+pub fn first(mut sentences: Vec<String>) -> Vec<String> {
+    let more = sentences.len().saturating_sub(MOST);
     if more > 0 {
-        arrivals.truncate(63);
-        arrivals.push(format!("and {more} more"));
+        sentences.truncate(MOST);
+        sentences.push(format!("and {more} more"));
     }
-    let mut seen = vec![
-        format!(
-            "{}; the path asks for {} (hops - infos + 1)",
-            counted(stations.len(), "station"),
-            header.stations()
-        ),
-        format!("arrivals {}", or_none(arrivals)),
-    ];
-    for (at, station) in stations.iter().enumerate().take(63) {
-        match (at, station.arrival) {
-            (0, 0) => {}
-            (0, arrival) => seen.push(format!("station 0, the first, arrives by {arrival} and not by 0")),
-            (_, 0) => seen.push(format!("station {at}, not the first, arrives by 0")),
-            _ => {}
-        }
+    sentences
+}
+
+// ---- beside a refusal
+
+/// A path that would do as a plan: the wrong file was named.
+pub fn plan_as_path(path: &[u8]) -> bool {
+    let stations = itinerary::read(path).stations.len();
+    itinerary::fits_some_path(path, stations)
+}
+
+/// What is seen beside a refusal of a journey.
+pub fn beside(error: JourneyError, path: &[u8], read: &Read, readings: [u32; 2]) -> Vec<String> {
+    let header = Header(path);
+    let mut seen = Vec::new();
+    if plan_as_path(path) {
+        seen.push("the path is a plan by its bytes: the path is named first, then the plan".into());
     }
-    let tables: Vec<String> = stations.iter().enumerate().filter_map(table).take(20).collect();
-    if tables.is_empty() {
-        seen.push("each station's interfaces are in order".into());
+    match error {
+        JourneyError::UnfitItinerary => seen.extend(in_plan(header, read, readings)),
+        JourneyError::NotAtStart => seen.push(format!("CurrINF {}, CurrHF {}", header.curr_inf(), header.curr_hf())),
+        JourneyError::AlertSet => seen.extend(alerts(header)),
+        JourneyError::MetaTooShort | JourneyError::DataTooShort | JourneyError::TooManyHops => {}
     }
-    seen.extend(tables);
-    seen.push(match earliest <= latest {
-        true => "the readings are in order".into(),
-        false => "the earliest reading is after the latest".into(),
-    });
-    seen.extend(read.remarks.clone());
     seen
 }
 
-fn or_none(words: Vec<String>) -> String {
+/// What is odd comes first, then what plan and path say of arrivals.
+fn in_plan(header: Header<'_>, read: &Read, [earliest, latest]: [u32; 2]) -> Vec<String> {
+    let (stations, mut seen) = (&read.stations, Vec::new());
+    let (count, asked) = (counted(stations.len(), "station"), header.stations());
+    if stations.len() != asked {
+        seen.push(format!("{count}; the path asks for {asked} (hops - infos + 1)"));
+    }
+    if earliest > latest {
+        seen.push("the earliest reading is after the latest".into());
+    }
+    seen.extend(odd_stations(stations));
+    seen.extend(read.remarks.clone());
+    if stations.len() == asked {
+        seen.push(format!("{count}, as the path asks for"));
+    }
+    let arrivals = stations.iter().map(|station| station.arrival.to_string()).collect();
+    seen.push(format!("arrivals {}", listed(arrivals)));
+    seen.push(format!("the path's hops come in by {}", ways_in(header)));
+    seen
+}
+
+/// The hops with an alert.
+fn alerts(header: Header<'_>) -> Vec<String> {
+    let hops = (0..header.hops()).filter_map(|index| Some((index, header.hop(index)?)));
+    let hops = hops.filter(|(_, hop)| hop.alerts(true).contains(&true));
+    first(hops.map(|(index, _)| format!("hop {index} has an alert")).collect())
+}
+
+/// The hops' interfaces in the direction of travel, segment by segment.
+fn ways_in(header: Header<'_>) -> String {
+    let segments = header.segments().into_iter().map(|segment| {
+        let Some(info) = header.info(segment.info) else {
+            return "none".into();
+        };
+        let hops = (segment.first_hop..).take(segment.hops);
+        let hops = hops.map_while(|index| header.hop(index));
+        listed(hops.map(|hop| hop.travel(info.cons_dir())[0].to_string()).collect())
+    });
+    match segments.collect::<Vec<_>>() {
+        segments if segments.is_empty() => "none".into(),
+        segments => segments.join(" | "),
+    }
+}
+
+/// A list for reading, cut where no path goes on: it has 63 stations at most.
+fn listed(mut words: Vec<String>) -> String {
+    let more = words.len().saturating_sub(63);
+    if more > 0 {
+        words.truncate(63);
+        words.push(format!("and {more} more"));
+    }
     match words.is_empty() {
         true => "none".into(),
         false => words.join(", "),
     }
 }
 
-/// The first thing that is out of order in a station's table.
-fn table((at, station): (usize, &Station)) -> Option<String> {
+/// What is odd about stations, whatever the path.
+pub fn odd_stations(stations: &[Station]) -> Vec<String> {
+    let odd = stations.iter().enumerate().flat_map(|(at, station)| {
+        let arrival = match (at, station.arrival) {
+            (0, arrival @ 1..) => Some(format!("station 0, the first, arrives by {arrival} and not by 0")),
+            (1.., 0) => Some(format!("station {at}, not the first, arrives by 0")),
+            _ => None,
+        };
+        arrival.into_iter().chain(odd_table(at, station))
+    });
+    first(odd.collect())
+}
+
+/// The first thing that is odd about a station's table.
+fn odd_table(at: usize, station: &Station) -> Option<String> {
     let interfaces = &station.interfaces;
     let pair = interfaces.windows(2).find(|pair| pair[0].0 >= pair[1].0);
     let state = interfaces.iter().find(|(_, state)| *state > 7);
     match (pair, state) {
+        (Some(pair), _) if pair[0].0 == pair[1].0 => Some(format!("station {at} lists interface {} twice", pair[0].0)),
         (Some(pair), _) => Some(format!(
             "station {at} lists interface {} before {}: not ascending",
             pair[0].0, pair[1].0
@@ -63,7 +127,54 @@ fn table((at, station): (usize, &Station)) -> Option<String> {
         (_, Some((number, state))) => Some(format!(
             "station {at} lists interface {number} with state {state}, above 7"
         )),
-        _ if interfaces.len() > 256 => Some(format!("station {at} lists {} interfaces", interfaces.len())),
+        _ if interfaces.len() > 256 => Some(format!(
+            "station {at} lists {} interfaces, and 256 is the most",
+            interfaces.len()
+        )),
         _ => None,
     }
+}
+
+// ---- beside a path that passed
+
+/// What no question asks for, and a site may trip over all the same.
+pub fn not_asked(header: Header<'_>, stations: &[Station]) -> Vec<String> {
+    let arrivals = stations.iter().enumerate().skip(1).filter_map(|(at, station)| {
+        let arrival = station.arrival;
+        let entry = station.interfaces.iter().find(|(number, _)| *number == arrival);
+        match entry {
+            None => Some(format!(
+                "station {at} does not list interface {arrival}, which the packet arrives by"
+            )),
+            Some((_, state)) if *state < 4 => Some(format!(
+                "station {at} lists interface {arrival}, which the packet arrives by, as down"
+            )),
+            Some(_) => None,
+        }
+    });
+    first(arrivals.chain(open_hops(header)).collect())
+}
+
+/// Hops that have a 0 although their segment goes on there.
+fn open_hops(header: Header<'_>) -> Vec<String> {
+    let mut open = Vec::new();
+    for segment in header.segments() {
+        let Some(info) = header.info(segment.info) else { break };
+        let last = segment.first_hop + segment.hops - 1;
+        for index in segment.first_hop..=last {
+            let Some(hop) = header.hop(index) else { break };
+            let [into, out] = hop.travel(info.cons_dir());
+            if into == 0 && index != segment.first_hop {
+                open.push(format!(
+                    "hop {index} has `in 0` inside its segment, so that it is taken from every interface"
+                ));
+            }
+            if out == 0 && index != last {
+                open.push(format!(
+                    "hop {index} has `out 0` inside its segment, so that the packet leaves by an interface 0"
+                ));
+            }
+        }
+    }
+    open
 }

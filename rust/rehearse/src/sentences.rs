@@ -61,22 +61,24 @@ const QUESTIONS: [Question; 25] = [
     question(
         "Interface 0, or travel ingress 0, or both equal?",
         "The packet came in by another interface than the hop names.",
-        "Correct the hop's `in` and sign again, or correct the interface that the packet arrives by.",
+        "Correct the hop's `in` and sign again, or correct the interface that the packet arrives by; with a plan, look at the \
+         order of its stations too.",
     ),
     question(
         "Timestamp at most now?",
         "The segment's timestamp is later than the reading of the clock.",
-        "Check the clock, or take a timestamp that is no later than the earliest reading and sign again.",
+        "Check the clock, or take a timestamp that is no later than its earliest reading and sign again.",
     ),
     question(
         "Expiry at least now?",
         "The hop has expired: it ends before the reading of the clock.",
-        "Let the hop last longer or take a later timestamp and sign again, or ask for an earlier reading.",
+        "Let the hop last longer (24 hours at most) or take a later timestamp and sign again, or ask for an earlier reading.",
     ),
     question(
         "MAC right, or MACs ignored?",
         "The hop's MAC is not the one that the key gives for its fields and the SegID.",
-        "Sign the path again under the plan's keys, and compare the key of this station with the plan's.",
+        "Compare key and interface with those of the station, and take the path as the station before it forwarded it; if \
+         that is so, sign the path again under the plan's keys, its hops without `mac`.",
     ),
     question(
         "No travel-egress alert here, no travel-ingress alert on the next hop?",
@@ -96,18 +98,17 @@ const QUESTIONS: [Question; 25] = [
     question(
         "Pair core-child, child-core, child-child, child-peer or peer-child?",
         "The kinds of the two links before and behind the segment change do not go together.",
-        "Change segments where one of the links goes to a child and the other to a core, a child or a peer; check the kinds in the plan.",
+        "Change segments where one of the links goes to a child and the other to a core, a child or a peer; check their kinds.",
     ),
     question(
         "Up?",
         "The interface to leave by is down.",
-        "Take a path that leaves by another interface, or set the interface up in the plan once it is.",
+        "Take a path that leaves by another interface, or set the interface up in the table or plan once it is.",
     ),
     question(
         "Segment going on?",
         "The segment ends at this hop, so that the packet can't leave by it.",
-        "Run ingress first if the path stands at the end of a segment; else give the segment the hop that is missing: each \
-         needs at least two.",
+        "Run ingress first, which changes to the next segment; each segment needs at least two hops.",
     ),
     question(
         "Travel egress the one given?",
@@ -133,7 +134,7 @@ const QUESTIONS: [Question; 25] = [
         "Itinerary sound, each table too, station count = hops − infos + 1, first arrival 0, later ones not, earliest at most latest?",
         "The plan is not sound, does not fit the path, or the readings are out of order.",
         "Count one station for each hop, but one for the two hops of a segment change; write arrival 0 at the first station only, \
-         interfaces in ascending order, and the earliest reading before the latest. A path has 63 stations at most.",
+         interfaces in ascending order, and no earliest reading after the latest. A path has 63 stations at most.",
     ),
     question(
         "CurrHF and CurrINF 0?",
@@ -162,37 +163,93 @@ const ANOTHER_HOP: Question = question(
     "Call egress only before the path's last hop, and give each segment at least two hops.",
 );
 
+const LAST_SEGMENT_OF_ONE: Question = question(
+    "Another hop after this one?",
+    "The path's last segment has one hop only, so that the packet can't leave by it.",
+    "Give each segment at least two hops.",
+);
+
+const EMPTY_SEGMENT: Question = question(
+    "CurrINF equal to the segment index?",
+    "An empty segment stands before the one that the path has come to, and CurrINF does not skip it.",
+    "Leave no empty segment before a used one.",
+);
+
+const SEGMENT_OF_ONE: Question = question(
+    "Segment going on?",
+    "The segment that the path has changed to has one hop only, so that the packet can't leave by it.",
+    "Give each segment at least two hops.",
+);
+
 const EGRESS_LISTED: Question = question(
     "Egress listed?",
     "The interface to leave by is not in the station's table.",
     "Add the interface to the station, or correct the hop's `out` and sign again.",
 );
 
+const NO_INGRESS: Question = question(
+    "Travel ingress listed?",
+    "At the segment change the hop names no interface to come in by: its `in` is 0.",
+    "0 is for an end of a segment: check the order of the hops and the `in` of the segment's last, and sign again.",
+);
+
+const NO_NEXT_EGRESS: Question = question(
+    "Next travel egress listed?",
+    "At the segment change the next hop names no interface to leave by: its `out` is 0.",
+    "0 is for an end of a segment: check the order of the hops and the `out` of the next segment's first, and sign again.",
+);
+
+const NO_EGRESS: Question = question(
+    "Egress listed?",
+    "The hop names no interface to leave by: its `out` is 0.",
+    "0 is for an end of a segment: check the order of the hops and their `out`, and sign again.",
+);
+
+const MAC_AT_EGRESS: Question = question(
+    "MAC right, or MACs ignored?",
+    "The hop's MAC is not the one that the key gives for its fields and the SegID.",
+    "Compare the key with the station's, and take the path as ingress left it; if that is so, sign the path again under the \
+     plan's keys, its hops without `mac`.",
+);
+
 const MAC_IN_JOURNEY: Question = question(
     "MAC right, or MACs ignored?",
     "The hop's MAC is not the one that the station's key gives for its fields and the SegID.",
-    "Sign the path with this plan (`rehearse sign TEXT --plan PLAN`); if it was, compare the keys and the order of the \
-     stations with those that it was signed with.",
+    "Sign the path with this plan (`rehearse sign TEXT --plan PLAN`), its hops without `mac`; if it was, compare the keys \
+     and the order of the stations with those that it was signed with.",
 );
 
-/// The question behind a step's refusal. Which of a number's questions it is, is seen in the values and the path left.
-pub fn of_step(number: u16, values: &[(&'static str, Json)], left: &[u8]) -> Option<&'static Question> {
-    let value = |name: &str| values.iter().find(|(value, _)| *value == name).map(|(_, value)| value);
-    let (header, curr_hf) = (Header(left), u64::from(Header(left).curr_hf()));
-    match number {
-        5 if header.hops() == 0 => Some(&NO_HOP),
-        5 if value("index") == Some(&Json::Number(curr_hf + 1)) => Some(&ANOTHER_HOP),
-        // At a segment change the path has moved on from the hop that is named.
-        15 if value("hop_index") == Some(&Json::Number(curr_hf)) => Some(&EGRESS_LISTED),
-        _ => of_number(number),
-    }
+/// Which call gave an answer.
+#[derive(Clone, Copy, PartialEq, Eq)]
+pub enum Call {
+    Step,
+    Ingress,
+    Egress,
+    /// The whole step, at a station of a journey.
+    Journey,
 }
 
-/// The question behind a step's refusal, where the step is one of a journey.
-pub fn of_journey_step(number: u16, values: &[(&'static str, Json)], left: &[u8]) -> Option<&'static Question> {
-    match number {
-        12 => Some(&MAC_IN_JOURNEY),
-        _ => of_step(number, values, left),
+/// The question behind a refusal. Which of a number's questions it is, is seen in the values and the path left.
+pub fn of_call(call: Call, number: u16, values: &[(&'static str, Json)], left: &[u8]) -> Option<&'static Question> {
+    let value = |name: &str| values.iter().find(|(value, _)| *value == name).map(|(_, value)| value);
+    let (header, curr_hf) = (Header(left), u64::from(Header(left).curr_hf()));
+    let is_zero = value("interface") == Some(&Json::Number(0));
+    // At a segment change the path has moved on from the hop that is named.
+    let is_current = value("hop_index") == Some(&Json::Number(curr_hf));
+    let is_next = value("index") == Some(&Json::Number(curr_hf + 1));
+    match (number, call) {
+        (5, _) if header.hops() == 0 => Some(&NO_HOP),
+        (5, Call::Egress) if is_next => Some(&ANOTHER_HOP),
+        // Ingress delivers at the path's last hop, so that the whole step came here by a segment change.
+        (5, _) if is_next => Some(&LAST_SEGMENT_OF_ONE),
+        (7, Call::Journey) => Some(&EMPTY_SEGMENT),
+        (12, Call::Egress) => Some(&MAC_AT_EGRESS),
+        (12, Call::Journey) => Some(&MAC_IN_JOURNEY),
+        (14, _) if is_zero => Some(&NO_INGRESS),
+        (15, _) if is_current => Some(if is_zero { &NO_EGRESS } else { &EGRESS_LISTED }),
+        (15, _) if is_zero => Some(&NO_NEXT_EGRESS),
+        (18, Call::Step | Call::Journey) => Some(&SEGMENT_OF_ONE),
+        _ => of_number(number),
     }
 }
 
@@ -211,8 +268,15 @@ mod tests {
         let others = [
             (5, &NO_HOP),
             (5, &ANOTHER_HOP),
+            (5, &LAST_SEGMENT_OF_ONE),
+            (7, &EMPTY_SEGMENT),
+            (12, &MAC_AT_EGRESS),
             (12, &MAC_IN_JOURNEY),
+            (18, &SEGMENT_OF_ONE),
+            (14, &NO_INGRESS),
+            (15, &NO_NEXT_EGRESS),
             (15, &EGRESS_LISTED),
+            (15, &NO_EGRESS),
         ];
         let all = (1..=25).filter_map(|number| Some((number, of_number(number)?)));
         for (number, Question { asked, no, advice }) in all.chain(others) {

@@ -1,22 +1,22 @@
 //! A path header from its text, its MACs worked out. The MAC itself is the library's.
 
+use crate::header::turned;
 use crate::hop_text::HopText;
 use crate::mistake::{mistake, Checked};
 use crate::path_text::{PathText, SegmentText, Start};
-use crate::report::counted;
 use standard_path::{calculate_hop_mac, ForwardingKey};
 
 pub struct Signed {
     pub bytes: Vec<u8>,
     /// How many MACs were worked out.
     pub worked_out: usize,
-    /// Each hop that could not be signed, in a sentence.
-    pub notes: Vec<String>,
+    /// The hops that no key was there for, in path order, each with its station. Their MACs are zeros.
+    pub unsigned: Vec<(usize, usize)>,
 }
 
 /// Writes the header. The stations' keys go to the hops in path order, one each, but a segment's last hop and the next
 /// one's first have one station.
-pub fn sign(path: &PathText, keys: Option<&[ForwardingKey]>) -> Checked<Signed> {
+pub fn sign(path: &PathText, keys: &[ForwardingKey]) -> Checked<Signed> {
     let mut lengths = [0; 3];
     let mut signer = Signer {
         keys,
@@ -42,18 +42,17 @@ pub fn sign(path: &PathText, keys: Option<&[ForwardingKey]>) -> Checked<Signed> 
     Ok(Signed {
         bytes,
         worked_out: signer.worked_out,
-        notes: signer.unsigned.into_iter().map(|(_, note)| note).collect(),
+        unsigned: signer.unsigned,
     })
 }
 
 struct Signer<'a> {
-    keys: Option<&'a [ForwardingKey]>,
+    keys: &'a [ForwardingKey],
     /// The segment's first hop, and that hop's station.
     hop: usize,
     station: usize,
     worked_out: usize,
-    /// The hops without a key, each with a sentence.
-    unsigned: Vec<(usize, String)>,
+    unsigned: Vec<(usize, usize)>,
 }
 
 impl Signer<'_> {
@@ -102,43 +101,25 @@ impl Signer<'_> {
         Ok((seg_id, macs))
     }
 
-    /// The MAC of a hop: the one given, else the library's under the station's key, else zeros and a note.
+    /// The MAC of a hop: the one given, else the library's under the station's key, else zeros.
     fn mac(&mut self, segment: &SegmentText, at: usize, seg_id: u16) -> [u8; 6] {
         let hop = &segment.hops[at];
         if let Some(mac) = hop.mac {
             return mac;
         }
         let (index, station) = (self.hop + at, self.station + at);
-        let Some(key) = self.keys.and_then(|keys| keys.get(station)) else {
-            let why = match self.keys {
-                None => "no plan was given (--plan)".to_string(),
-                Some(keys) => format!(
-                    "the plan has {}, and this hop is for station {station}, counted from 0",
-                    counted(keys.len(), "station")
-                ),
-            };
-            let note = format!("hop {index} has no key, so that its MAC is zeros: {why}");
-            self.unsigned.push((index, note));
+        let Some(key) = self.keys.get(station) else {
+            self.unsigned.push((index, station));
             return [0; 6];
         };
         self.worked_out += 1;
-        let [ingress, egress] = constructed(hop, segment.cons_dir);
+        let [ingress, egress] = turned(segment.cons_dir, hop.travel);
         calculate_hop_mac(seg_id, segment.timestamp, hop.exp_time, ingress, egress, key)
     }
 }
 
 fn head(mac: [u8; 6]) -> u16 {
     u16::from_be_bytes([mac[0], mac[1]])
-}
-
-/// ConsIngress and ConsEgress.
-fn constructed(hop: &HopText, cons_dir: bool) -> [u16; 2] {
-    let [into, out] = hop.travel;
-    if cons_dir {
-        [into, out]
-    } else {
-        [out, into]
-    }
 }
 
 fn info_bytes(segment: &SegmentText, seg_id: u16) -> [u8; 8] {
@@ -148,14 +129,9 @@ fn info_bytes(segment: &SegmentText, seg_id: u16) -> [u8; 8] {
 }
 
 fn hop_bytes(hop: &HopText, cons_dir: bool, mac: [u8; 6]) -> [u8; 12] {
-    let [alert_in, alert_out] = hop.alerts.map(u8::from);
-    let (ingress_alert, egress_alert) = if cons_dir {
-        (alert_in, alert_out)
-    } else {
-        (alert_out, alert_in)
-    };
+    let [ingress_alert, egress_alert] = turned(cons_dir, hop.alerts.map(u8::from));
     let flags = hop.reserved_flags | ingress_alert << 1 | egress_alert;
-    let [[i0, i1], [e0, e1]] = constructed(hop, cons_dir).map(u16::to_be_bytes);
+    let [[i0, i1], [e0, e1]] = turned(cons_dir, hop.travel).map(u16::to_be_bytes);
     let [m0, m1, m2, m3, m4, m5] = mac;
     [flags, hop.exp_time, i0, i1, e0, e1, m0, m1, m2, m3, m4, m5]
 }

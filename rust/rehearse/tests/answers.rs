@@ -245,24 +245,3 @@ fn a_long_list_is_gone_through() {
         .out
         .ends_with("3000 journeys: 3000 passed, 0 not passed, 0 refused, 0 not read\n"));
 }
-
-/// On a terminal the progress is shown and taken away again. `script` lends one; where it is not there, nothing is tried.
-#[test]
-fn progress_is_shown_on_a_terminal() {
-    let folder = folder();
-    folder.write("long", "good.path site.plan\n".repeat(50));
-    let call = format!("{} journey --batch long {READINGS} > out", common::PROGRAM);
-    let script = std::process::Command::new("script")
-        .args(["-qec", &call, "screen"])
-        .current_dir(&folder.0)
-        .stdin(std::process::Stdio::null())
-        .stdout(std::process::Stdio::null())
-        .status();
-    let Ok(status) = script else { return };
-    assert!(status.success());
-    let screen = String::from_utf8_lossy(&folder.read("screen")).into_owned();
-    assert!(screen.contains("\r\x1b[K0 of 50"), "{screen:?}");
-    assert!(folder
-        .read("out")
-        .ends_with(b"50 journeys: 50 passed, 0 not passed, 0 refused, 0 not read\n"));
-}

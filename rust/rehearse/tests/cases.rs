@@ -173,7 +173,8 @@ fn shown_and_written(folder: &Folder, plan: &[u8]) {
     assert!(shown.status == 0 || shown.status == 1, "{shown:?}");
     folder.write("text", &shown.out);
     let written = folder.run("plan text -o again");
-    assert_eq!(written.status, 0, "{written:?}");
+    // What is not shown in a text is sound when it is written anew.
+    assert!((0..=shown.status).contains(&written.status), "{written:?}");
     if !shown.out.starts_with('#') {
         assert_eq!(to_hex(&folder.read("again")), to_hex(plan));
     }

@@ -87,42 +87,36 @@ fn each_example_runs() {
     }
 }
 
-/// The text forms that the helps show can be copied as they stand.
+/// The text forms that the helps show can be copied as they stand, and the first path passes on the example site.
 #[test]
 fn each_text_form_in_a_help_can_be_copied() {
     let folder = Folder::with_site();
     for (name, first, call) in [
-        ("plan", "    station\n", "plan text -o out"),
-        ("sign", "    path\n", "sign text --plan site.plan -o out"),
+        ("plan", "    station\n", "plan TEXT -o out.plan"),
+        ("sign", "    segment\n", "sign TEXT --plan site.plan -o out.path"),
+        ("sign", "    path  ", "sign TEXT --plan site.plan -o whole.path"),
     ] {
         let help = stored(name);
         let from = &help[help.find(first).unwrap()..];
-        folder.write("text", &from[..from.find("\n\n").unwrap()]);
-        let ran = folder.run(call);
+        let text = format!("{}.txt", first.trim());
+        folder.write(&text, &from[..from.find("\n\n").unwrap()]);
+        let ran = folder.run(&call.replace("TEXT", &text));
         assert_eq!(ran.status, 0, "{name}: {}", ran.err);
     }
-    assert!(stored("show").contains("rehearse show good.path"));
-    assert!(folder.run("show good.path").out.contains("hop 0 "));
+    let ran = folder.run(&format!("journey out.path site.plan {}", common::READINGS));
+    assert_eq!(ran.status, 0, "{}", ran.out);
 }
 
 #[test]
 fn each_option_is_in_its_help() {
     let folder = Folder::new();
+    let step = "--table --key --plan --station --interface --now --ignore-macs --write --raw --hex --json";
     for (command, options) in [
         ("demo", "--write --json"),
         ("show", "--raw --hex --json"),
-        (
-            "step",
-            "--table --key --interface --now --ignore-macs --write --raw --hex --json",
-        ),
-        (
-            "ingress",
-            "--table --key --interface --now --ignore-macs --write --raw --hex --json",
-        ),
-        (
-            "egress",
-            "--table --key --interface --now --ignore-macs --write --raw --hex --json",
-        ),
+        ("step", step),
+        ("ingress", step),
+        ("egress", step),
         ("journey", "--earliest --latest --batch --raw --hex --json"),
         ("reverse", "--write --raw --hex --json"),
         ("expiration", "--raw --hex --json"),
@@ -130,7 +124,9 @@ fn each_option_is_in_its_help() {
         ("sign", "--plan -o --show --raw --hex --json"),
     ] {
         for option in options.split(' ') {
-            assert!(stored(command).contains(option), "{command} {option}");
+            let help = stored(command);
+            let described = |line: &str| line.trim_start().starts_with(option) || line.contains(&format!(", {option}"));
+            assert!(help.lines().any(described), "{command} {option}");
             let said = folder.run(&format!("{command} {option}")).err;
             assert!(!said.contains("is not an option"), "{command} {option}: {said}");
         }

@@ -3,10 +3,8 @@
 mod common;
 
 use common::json::{parse, Value};
-use common::{expect, Folder, PROGRAM};
-use std::process::Command;
-
-const READINGS: &str = "--earliest 2026-11-16T06:05:00Z --latest 2026-11-16T11:00:00Z";
+use common::{expect, Folder, PROGRAM, READINGS};
+use std::process::{Command, Stdio};
 
 /// The status is that of all journeys, also where nobody reads their lines.
 #[test]
@@ -62,4 +60,47 @@ fn each_bad_line_is_named_and_the_others_are_checked() {
     let lines: Vec<_> = answers[..6].iter().filter_map(|answer| answer.number("line")).collect();
     assert_eq!((ran.status, &lines[..]), (2, &[1, 2, 3, 5, 6, 7][..]));
     assert_eq!(answers[6].number("not_read"), Some(3));
+}
+
+/// What stands on a terminal that a call writes to. `script` lends one; where it is not there, nothing is tried.
+fn screen(folder: &Folder, call: &str) -> Option<String> {
+    let script = Command::new("script")
+        .args(["-qec", &format!("{PROGRAM} {call}"), "screen"])
+        .current_dir(&folder.0)
+        .stdin(Stdio::null())
+        .stdout(Stdio::null())
+        .status();
+    assert!(script.ok()?.success());
+    Some(String::from_utf8_lossy(&folder.read("screen")).into_owned())
+}
+
+const CLEAR: &str = "\r\x1b[K";
+
+#[test]
+fn progress_is_shown_on_a_terminal_and_taken_away() {
+    let folder = Folder::with_site();
+    folder.write("long", "good.path site.plan\n".repeat(3_000));
+    let call = format!("journey --batch long {READINGS}");
+    // The lines go to a file, the progress to the terminal.
+    let Some(shown) = screen(&folder, &format!("{call} >out")) else {
+        return;
+    };
+    let drawn: Vec<&str> = shown.split(CLEAR).collect();
+    assert!(drawn.contains(&"1 of 3000"), "{shown:?}");
+    assert!(!drawn.last().unwrap().contains(" of 3000"), "{shown:?}");
+    assert_eq!(folder.text("out").lines().count(), 3_001);
+
+    // Both go to the terminal: the lines stand whole, each once, and the progress behind those that are done.
+    let shown = screen(&folder, &call).unwrap();
+    assert_eq!(shown.matches("passed      good.path site.plan\r\n").count(), 3_000);
+    let of_progress = shown.split(CLEAR).filter(|part| part.ends_with(" of 3000"));
+    assert!(of_progress.clone().count() >= 1, "{shown:?}");
+    let mut done = 0;
+    for part in shown.split(CLEAR) {
+        if let Some(count) = part.strip_suffix(" of 3000") {
+            assert_eq!(count.parse(), Ok(done), "{shown:?}");
+        }
+        done += part.matches("passed      good").count();
+    }
+    assert!(shown.contains("3000 journeys: 3000 passed"), "{shown:?}");
 }

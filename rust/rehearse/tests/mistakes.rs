@@ -7,6 +7,7 @@ use common::{expect, Folder, PROGRAM};
 use std::process::{Command, Stdio};
 
 const STEP: &str = "--table 1:parent:up --key 30a1f2c4b5d697e8091a2b3c4d5e6f70 --interface 0 --now 1794809100";
+const REST: &str = "--interface 0 --now 1794809100";
 
 /// A folder with files that are no good.
 fn folder() -> Folder {
@@ -26,7 +27,7 @@ fn folder() -> Folder {
 
 fn transcript(folder: &Folder, calls: &[&str], status: i32) -> String {
     let each = calls.iter().map(|call| {
-        let call = call.replace("STEP", STEP);
+        let call = call.replace("STEP", STEP).replace("REST", REST);
         let ran = folder.run(&call);
         assert_eq!(ran.status, status, "{call}: {ran:?}");
         if status == 2 {
@@ -55,10 +56,10 @@ fn mistakes_in_a_call() {
         "show good.path --raw --hex",
         "step good.path",
         "step good.path --table 1:parent:up",
-        "step good.path --table 1:parent:up --key 00",
-        "step good.path --table 1:parent:up --key 30a1f2c4b5d697e8091a2b3c4d5e6f7g",
-        "step good.path --table 1:parent:up --key @nope",
-        "step good.path --table 1:parent:up --key @good.txt",
+        "step good.path --table 1:parent:up --key 00 REST",
+        "step good.path --table 1:parent:up --key 30a1f2c4b5d697e8091a2b3c4d5e6f7g REST",
+        "step good.path --table 1:parent:up --key @nope REST",
+        "step good.path --table 1:parent:up --key @good.txt REST",
         "step good.path --table 1:parent:up --key 30a1f2c4b5d697e8091a2b3c4d5e6f70",
         "step good.path --table 1:parent:up --key 30a1f2c4b5d697e8091a2b3c4d5e6f70 --interface 65536 --now 1",
         "step good.path --table 1:parent:up --key 30a1f2c4b5d697e8091a2b3c4d5e6f70 --interface -1 --now 1",
@@ -106,6 +107,18 @@ fn mistakes_in_a_call() {
         "reverse good.path --write ./good.path",
         "show -- --json",
         "demo --write empty",
+        "plan folder -o x",
+        "sign folder -o x",
+        "step good.path --table folder --key 30a1f2c4b5d697e8091a2b3c4d5e6f70 REST",
+        "step good.path --table junk --key 30a1f2c4b5d697e8091a2b3c4d5e6f70 REST",
+        "step good.path --table 3 --key 30a1f2c4b5d697e8091a2b3c4d5e6f70 REST",
+        "step good.path --table a:b/table --key 30a1f2c4b5d697e8091a2b3c4d5e6f70 REST",
+        "step good.path --table 1:parent:up --key @folder REST",
+        "step good.path --table 1:parent:up --key @junk REST",
+        "step good.path --table 1:parent:up --key @empty REST",
+        "journey --batch folder --earliest 1 --latest 2",
+        "journey --batch huge --earliest 1 --latest 2",
+        "show --qqq",
     ];
     expect("mistakes-call.txt", &transcript(&folder(), &calls, 2));
 }
@@ -171,6 +184,13 @@ fn bytes_of_any_kind_are_answered() {
         "plan --show nothing.txt",
         "show not-hex --raw",
         "show junk",
+        "step junk STEP",
+        "ingress junk STEP",
+        "egress junk STEP",
+        "reverse junk",
+        "expiration junk",
+        "journey junk site.plan --earliest 1 --latest 2",
+        "sign --show junk",
     ];
     expect("any-bytes.txt", &transcript(&folder(), &calls, 1));
 }

@@ -3,17 +3,15 @@
 mod common;
 
 use common::json::{parse, Value};
-use common::{expect, Folder};
+use common::{expect, Folder, HALL_A, READINGS};
 
 const AT: &str = "--now 2026-11-16T06:05:00Z";
-const HALL_A: &str = "--table 1:parent:up --key 30a1f2c4b5d697e8091a2b3c4d5e6f70";
-const READINGS: &str = "--earliest 2026-11-16T06:05:00Z --latest 2026-11-16T11:00:00Z";
 
 /// The question printed is the one that was answered no.
 #[test]
 fn a_number_with_two_questions_says_the_right_one() {
     let folder = Folder::with_site();
-    let good = String::from_utf8(folder.read("good.txt")).unwrap();
+    let good = folder.text("good.txt");
     folder.write(
         "end.txt",
         good.replace("curr_hf 0", "curr_hf 4")
@@ -109,7 +107,7 @@ fn a_number_with_two_questions_says_the_right_one() {
 #[test]
 fn the_step_s_own_egress_says_another_hop() {
     let folder = Folder::with_site();
-    let good = String::from_utf8(folder.read("good.txt")).unwrap();
+    let good = folder.text("good.txt");
     let text = good
         .replace("    hop in 21 out 22 lasts 6h\n", "")
         .replace("    hop in 31 out 0 lasts 6h\n", "");
@@ -122,12 +120,184 @@ fn the_step_s_own_egress_says_another_hop() {
         (answer.number("number"), answer.text("question")),
         (Some(5), "Another hop after this one?")
     );
+    assert_eq!(answer.text("what_to_do"), "Give each segment at least two hops.");
+}
+
+/// What a no means, and what to do, where the whole step and a journey come to a question otherwise than a half alone.
+#[test]
+fn the_advice_fits_the_call() {
+    let folder = Folder::with_site();
+    let good = folder.text("good.txt");
+    let (up, down) = good.split_at(good.find("# Down").unwrap());
+    let one_hop = "segment\n cons_dir yes\n timestamp 2026-11-16T06:00:00Z\n hop in 0 out 12 lasts 6h\n";
+    for (name, text) in [
+        (
+            "empty-first",
+            format!("segment none\n{}", &up[up.find("segment").unwrap()..]),
+        ),
+        ("empty-middle", format!("{up}segment none\n{down}")),
+        ("one-middle", format!("{up}{one_hop}{down}")),
+        ("in-0", good.replace("hop in 11 out 0", "hop in 0 out 0")),
+        ("next-out-0", good.replace("hop in 0 out 12", "hop in 0 out 0")),
+        ("out-0", good.replace("hop in 0 out 1 ", "hop in 0 out 0 ")),
+        (
+            "kept",
+            good.replace("in 21 out 22 lasts 6h", "in 21 out 22 lasts 6h mac 0123456789ab"),
+        ),
+    ] {
+        folder.write(&format!("{name}.txt"), text);
+        folder.run(&format!("sign {name}.txt --plan site.plan -o {name}"));
+    }
+    let plan = folder.text("plan.txt");
+    let first_two = &plan[..plan.find("# 2:").unwrap()];
+    folder.write("two", first_two);
+    for (path, plan, number, advice) in [
+        ("empty-first", "two", 7, "Leave no empty segment before a used one."),
+        (
+            "empty-middle",
+            "plan.txt",
+            7,
+            "Leave no empty segment before a used one.",
+        ),
+        ("one-middle", "plan.txt", 18, "Give each segment at least two hops."),
+        (
+            "in-0",
+            "plan.txt",
+            14,
+            "the `in` of the segment's last, and sign again.",
+        ),
+        (
+            "next-out-0",
+            "plan.txt",
+            15,
+            "the `out` of the next segment's first, and sign again.",
+        ),
+        (
+            "out-0",
+            "plan.txt",
+            15,
+            "check the order of the hops and their `out`, and sign again.",
+        ),
+        ("kept", "plan.txt", 12, "its hops without `mac`;"),
+    ] {
+        let answer = parse(&folder.run(&format!("journey {path} {plan} {READINGS} --json")).out);
+        let stop = answer.get("stops").unwrap();
+        assert_eq!(stop.number("number"), Some(number), "{path}");
+        assert!(
+            stop.text("what_to_do").ends_with(advice) || stop.text("what_to_do").contains(advice),
+            "{path}"
+        );
+        let ran = folder.run(&format!("journey {path} {plan} {READINGS}"));
+        assert!(ran.out.contains(stop.text("what_to_do")), "{path}: {}", ran.out);
+    }
+    // Egress of a path that has not been through ingress: the SegID is not yet the hop's.
+    folder.write(
+        "up",
+        format!("{up}    hop in 21 out 0 lasts 6h\n").replace("hop in 11 out 0", "hop in 11 out 12"),
+    );
+    folder.run("sign up --plan site.plan -o up.path");
+    folder.run(&format!("step up.path {HALL_A} --interface 0 {AT} --write at-core"));
+    let core = "--table 11:child:up,12:child:up --key 31b2e3d4c5f6a7980a1b2c3d4e5f6071";
+    let answer = parse(
+        &folder
+            .run(&format!("egress at-core {core} --interface 12 {AT} --json"))
+            .out,
+    );
+    assert_eq!(answer.number("number"), Some(12));
+    assert!(answer.text("what_to_do").contains("take the path as ingress left it"));
+    assert_eq!(
+        folder
+            .run(&format!("ingress at-core {core} --interface 11 {AT} --write inside"))
+            .status,
+        0
+    );
+    assert_eq!(
+        folder.run(&format!("egress inside {core} --interface 12 {AT}")).status,
+        0
+    );
+}
+
+/// The hops that a refusal is about are shown as they were given: both of a segment change, else the one that is named.
+#[test]
+fn a_refusal_shows_its_hops() {
+    let folder = Folder::with_site();
+    let good = folder.text("good.txt");
+    folder.write(
+        "alert.txt",
+        good.replace("in 0 out 12 lasts 6h", "in 0 out 12 lasts 6h alert ingress"),
+    );
+    folder.run("sign alert.txt --plan site.plan -o alert");
+    folder.run(&format!("step alert {HALL_A} --interface 0 {AT} --write core"));
+    let core = "--table 11:child:up,12:child:up --key 31b2e3d4c5f6a7980a1b2c3d4e5f6071 --interface 11";
+    let ran = folder.run(&format!("step core {core} {AT}"));
+    assert!(ran.out.starts_with("refused, number 13: "), "{}", ran.out);
+    for part in [
+        "    hop 1        in 11, out 0; ends 2026-11-16T12:00:00Z (ExpTime 63); no alert\n                 of a segment with \
+         timestamp 2026-11-16T06:00:00Z (1794808800), C clear\n",
+        "    hop 2        in 0, out 12; ends 2026-11-16T12:00:00Z (ExpTime 63); ingress alert\n",
+    ] {
+        assert!(ran.out.contains(part), "{}", ran.out);
+    }
+    let hops = |call: &str| -> Vec<u64> {
+        match parse(&folder.run(call).out).get("named_hops") {
+            Some(Value::List(hops)) => hops.iter().filter_map(|hop| hop.number("index")).collect(),
+            other => panic!("{other:?}"),
+        }
+    };
+    assert_eq!(hops(&format!("step core {core} {AT} --json")), [1, 2]);
+    assert_eq!(
+        hops(&format!(
+            "step good.path {HALL_A} --interface 0 --now 2026-11-17 --json"
+        )),
+        [0]
+    );
+    assert_eq!(
+        hops(&format!("step good.path {HALL_A} --interface 0 {AT} --json")),
+        Vec::<u64>::new()
+    );
+}
+
+/// Where the header alone is to blame, `show` has the question as well.
+#[test]
+fn show_asks_what_the_header_alone_decides() {
+    let folder = Folder::with_site();
+    let good = folder.read("good.path");
+    for (name, at, byte, number) in [
+        ("past", 0, 0x45, 5),
+        ("inf", 0, 0x40, 7),
+        ("one", 1, 0, 0),
+        ("whole", 0, 0x44, 0),
+    ] {
+        let mut path = good.clone();
+        path[at] = byte;
+        folder.write(name, path);
+        let ran = folder.run(&format!("show {name}"));
+        assert_eq!(ran.status, i32::from(number != 0), "{name}");
+        let headline = if number == 0 {
+            "whole: ".into()
+        } else {
+            format!("refused, number {number}: ")
+        };
+        assert!(ran.out.starts_with(&headline), "{}", ran.out);
+        assert!(ran.out.contains("\nmeta word (bytes 0 to 3)\n"), "{}", ran.out);
+        let answer = parse(&folder.run(&format!("show {name} --json")).out);
+        assert_eq!(answer.number("number").unwrap_or(0), number, "{name}");
+        assert_eq!(answer.number("hops"), Some(5), "{name}");
+    }
+    folder.write("single.hex", format!("00001000{}", "00".repeat(20)));
+    assert!(folder.run("show single.hex").out.starts_with("refused, number 6: "));
+    folder.write("gap.hex", format!("00000082{}", "00".repeat(64)));
+    let ran = folder.run("show gap.hex");
+    assert!(ran.out.starts_with("refused, number 7: "), "{}", ran.out);
+    assert!(ran
+        .out
+        .contains("    gap          a segment before it is empty: the step looks for info field 1 here\n"));
 }
 
 #[test]
 fn a_wrong_mac_in_a_journey_says_to_sign_with_its_plan() {
     let folder = Folder::with_site();
-    let plan = String::from_utf8(folder.read("plan.txt")).unwrap();
+    let plan = folder.text("plan.txt");
     folder.write("other.txt", plan.replace("key 30", "key 31"));
     let ran = folder.run(&format!("journey good.path other.txt {READINGS}"));
     assert!(
@@ -141,7 +311,7 @@ fn a_wrong_mac_in_a_journey_says_to_sign_with_its_plan() {
 #[test]
 fn what_is_seen_in_a_plan_stands_beside_23() {
     let folder = Folder::with_site();
-    let plan = String::from_utf8(folder.read("plan.txt")).unwrap();
+    let plan = folder.text("plan.txt");
     let mut said = String::new();
     for (name, text) in [
         ("arrival", plan.replace("arrival 21", "arrival 0")),
@@ -149,6 +319,14 @@ fn what_is_seen_in_a_plan_stands_beside_23() {
         ("order", plan.replace("interface 12 child up", "interface 10 child up")),
         ("state", plan.replace("interface 13 child down", "interface 13 state 9")),
         ("short", plan[..plan.rfind("station").unwrap()].into()),
+        ("twice", plan.replace("interface 12 child up", "interface 11 child up")),
+        (
+            "many",
+            plan.clone()
+                + &(32..=287)
+                    .map(|number| format!("interface {number} child up\n"))
+                    .collect::<String>(),
+        ),
     ] {
         folder.write(name, text);
         said += &folder.transcript(&format!("journey good.path {name} {READINGS}"));
@@ -160,18 +338,102 @@ fn what_is_seen_in_a_plan_stands_beside_23() {
     said += &folder.transcript(&format!("journey good.path bytes {READINGS}"));
     said += &folder.transcript("journey good.path site.plan --earliest 2026-11-17 --latest 2026-11-16");
     expect("seen.txt", &said);
-    assert_eq!(said.matches("refused, number 23").count(), 7);
+    assert_eq!(said.matches("refused, number 23").count(), 9);
     for part in [
         "3 stations; the path asks for 4 (hops - infos + 1)",
         "station 2, not the first, arrives by 0",
         "station 0, the first, arrives by 1 and not by 0",
         "station 1 lists interface 11 before 10: not ascending",
         "station 1 lists interface 13 with state 9, above 7",
+        "station 1 lists interface 11 twice",
+        "station 3 lists 257 interfaces, and 256 is the most",
+        "the path's hops come in by 0, 11 | 0, 21, 31",
         "byte 31 of record 0 is not zero",
         "byte 30 of record 1, a station, is not zero",
         "the earliest reading is after the latest",
     ] {
         assert!(said.contains(part), "{part}");
+    }
+}
+
+/// What is right up to its limit is not called odd.
+#[test]
+fn what_is_seen_is_true_at_its_limits() {
+    let folder = Folder::with_site();
+    let plan = folder.text("plan.txt");
+    let many: String = (32..=286)
+        .map(|number| format!("interface {number} child up\n"))
+        .collect();
+    folder.write("many", plan.clone() + &many);
+    assert_eq!(folder.run(&format!("journey good.path many {READINGS}")).status, 0);
+    folder.write("state", plan.replace("interface 13 child down", "interface 13 state 7"));
+    assert_eq!(folder.run(&format!("journey good.path state {READINGS}")).status, 0);
+    let at = "2026-11-16T06:05:00Z";
+    assert_eq!(
+        folder
+            .run(&format!("journey good.path site.plan --earliest {at} --latest {at}"))
+            .status,
+        0
+    );
+    folder.write("state", plan.replace("interface 13 child down", "interface 13 state 8"));
+    let ran = folder.run(&format!("journey good.path state {READINGS}"));
+    assert!(ran.out.contains("with state 8, above 7"), "{}", ran.out);
+    assert!(!ran.out.contains("is after the latest"), "{}", ran.out);
+}
+
+#[test]
+fn what_no_question_asks_for_stands_beside_a_pass() {
+    let folder = Folder::with_site();
+    let (plan, good) = (folder.text("plan.txt"), folder.text("good.txt"));
+    folder.write(
+        "down",
+        plan.replace("interface 21 parent up", "interface 21 parent down"),
+    );
+    folder.write("unlisted", plan.replace("    interface 31 parent up\n", ""));
+    folder.write(
+        "zero",
+        plan.replace("interface 22 child up", "interface 0 child up\n interface 22 child up"),
+    );
+    folder.write(
+        "zero",
+        folder.text("zero").replace(
+            "interface 21 parent up\n    interface 0 child up\n",
+            "interface 0 child up\n    interface 21 parent up\n",
+        ),
+    );
+    folder.write("open.txt", good.replace("in 21 out 22", "in 0 out 0"));
+    assert_eq!(folder.run("sign open.txt --plan zero -o open.path").status, 0);
+    for (path, plan, not_asked) in [
+        ("good.path", "site.plan", &[][..]),
+        (
+            "good.path",
+            "down",
+            &["station 2 lists interface 21, which the packet arrives by, as down"],
+        ),
+        (
+            "good.path",
+            "unlisted",
+            &["station 3 does not list interface 31, which the packet arrives by"],
+        ),
+        (
+            "open.path",
+            "zero",
+            &[
+                "hop 3 has `in 0` inside its segment, so that it is taken from every interface",
+                "hop 3 has `out 0` inside its segment, so that the packet leaves by an interface 0",
+            ],
+        ),
+    ] {
+        let call = format!("journey {path} {plan} {READINGS}");
+        let answer = parse(&folder.run(&format!("{call} --json")).out);
+        assert_eq!(answer.text("answer"), "passed", "{call}");
+        assert_eq!(answer.texts("not_asked"), not_asked, "{call}");
+        let ran = folder.run(&call);
+        assert_eq!(
+            (ran.status, ran.out.contains("    not asked    ")),
+            (0, !not_asked.is_empty()),
+            "{call}"
+        );
     }
 }
 

@@ -32,9 +32,12 @@ fn a_plan_s_text_comes_back() {
     for _ in 0..200 {
         let text = any_plan(&mut random);
         folder.write("text", &text);
-        assert!(folder.run("plan text -o plan").status == 0, "{text}");
-        assert!(folder.run("plan text -o plan.hex").status == 0, "{text}");
-        let shown = folder.run("plan --show plan");
+        let shown = {
+            let (written, hex) = (folder.run("plan text -o plan"), folder.run("plan text -o plan.hex"));
+            let shown = folder.run("plan --show plan");
+            assert_eq!((written.status, hex.status), (shown.status, shown.status), "{text}");
+            shown
+        };
         let lines = shown.out.lines().filter(|line| !line.starts_with('#'));
         assert_eq!(lines.map(|line| format!("{line}\n")).collect::<String>(), text);
         // A comment says that question 23 turns it down, and the status says the same.
@@ -75,7 +78,7 @@ fn bytes_of_any_kind_are_shown_as_a_plan() {
         let shown = folder.run("plan --show plan --raw");
         assert!(shown.status < 2 && shown.err.is_empty(), "{shown:?}");
         folder.write("text", &shown.out);
-        assert_eq!(folder.run("plan text -o again").status, 0, "{}", shown.out);
+        assert!(folder.run("plan text -o again").status < 2, "{}", shown.out);
         parse(&folder.run("plan --show plan --raw --json").out);
     }
 }
@@ -138,9 +141,9 @@ fn fitting(random: &mut Random) -> (String, String) {
         };
         path += &format!("segment\ncons_dir {}\n{start}", if cons_dir { "yes" } else { "no" });
         path += &format!(
-            "peering {}\ntimestamp {}\n",
+            "peering {}\ntimestamp 1970-01-01T00:16:4{}Z\n",
             if random.flip() { "yes" } else { "no" },
-            1000 + random.below(9)
+            random.below(9)
         );
         for hop in 0..hops {
             let (first, last) = (station == 0, hop + 1 == hops);
@@ -200,18 +203,18 @@ fn a_hop_without_a_key_is_said() {
         "station\narrival 0\nkey 30a1f2c4b5d697e8091a2b3c4d5e6f70\n",
     );
     let signed = folder.run("sign good.txt --plan short.txt -o -");
-    assert_eq!(signed.status, 0);
-    assert_eq!(signed.err.lines().count(), 5);
+    assert_eq!(signed.status, 1);
+    assert_eq!(signed.err.lines().count(), 2);
     assert!(signed
         .err
         .contains("the plan has 1 station, and this path asks for 4 (hops - infos + 1)"));
     assert!(signed
         .err
-        .contains("hop 4 has no key, so that its MAC is zeros: the plan has 1 station, and this hop is for station 3, counted from 0"));
+        .contains("hops 1, 2, 3, 4 have no key, so that their MACs are zeros: the plan has 1 station, and hop 1 is for station 1, counted from 0"));
     let unsigned = folder.run("sign good.txt -o -");
     assert!(unsigned
         .err
-        .contains("hop 0 has no key, so that its MAC is zeros: no plan was given (--plan)"));
+        .contains("hops 0, 1, 2, 3, 4 have no key, so that their MACs are zeros: no plan was given (--plan)"));
     assert!(unsigned.out.ends_with("000000000000\n"));
 }
 
@@ -238,9 +241,11 @@ fn texts_of_any_kind_are_read() {
             }
             folder.write("text", &text);
             let ran = folder.run(call);
-            assert!(ran.status == 0 || ran.status == 2, "{ran:?}");
-            assert!(ran.status == 0 || ran.err.starts_with("rehearse: text"), "{ran:?}");
-            taken[usize::from(ran.status == 0)] += 1;
+            // A text that is taken is written; a plan in it may still be turned down.
+            let is_taken = ran.status == 0 || ran.status == 1;
+            assert!(is_taken || ran.status == 2, "{ran:?}");
+            assert!(is_taken || ran.err.starts_with("rehearse: text"), "{ran:?}");
+            taken[usize::from(is_taken)] += 1;
         }
     }
     assert!(taken[0] > 50 && taken[1] > 50, "{taken:?}");

@@ -1,17 +1,16 @@
 //! `rehearse journey --batch`: many journeys, a line for each, and a summary.
 
 use super::journey::{between, check, Between, Checking};
-use super::keys;
+use super::names;
 use crate::answers::Answer;
 use crate::arguments::Arguments;
 use crate::files::{is_plain, shown, Files};
 use crate::json::Json;
 use crate::mistake::{mistake, Checked, Mistake};
-use crate::output::{self, Progress};
+use crate::output::Lines;
 use crate::report::{counted, Report};
 use std::collections::BTreeMap;
 use std::ffi::OsStr;
-use std::io::{self, IsTerminal};
 
 /// A line of the list: a path and a plan, or what is wrong with it.
 struct Entry<'a> {
@@ -41,20 +40,14 @@ pub fn run(arguments: &Arguments, files: &Files) -> Checked<Report> {
     if entries.is_empty() {
         return mistake(format!("{of} names no journey: write a path and a plan on each line"));
     }
-    let mut progress = Progress::of(entries.len());
-    let is_screen = io::stdout().is_terminal();
+    let mut lines = Lines::of(entries.len());
     let mut summary = Summary::default();
     // Without a reader the journeys are checked all the same: the status is that of all of them.
-    let mut is_read = true;
-    for (done, entry) in entries.iter().enumerate() {
-        progress.at(done);
+    for (at, entry) in entries.iter().enumerate() {
         let line = one(files, entry, &between, arguments.flag("--json"), &mut summary);
-        if is_screen {
-            progress.clear();
-        }
-        is_read = is_read && output::print(&line)?;
+        lines.print(&line, at + 1)?;
     }
-    progress.clear();
+    lines.finish()?;
     let mut report = summary.report(entries.len());
     report.notes = between.notes;
     Ok(report)
@@ -106,10 +99,7 @@ fn one(files: &Files, entry: &Entry<'_>, between: &Between, as_json: bool, summa
         Err(why) => mistake(&why.0),
     };
     let (label, why, mut json) = match checking {
-        Ok(Checking { answer, report, stop }) => {
-            let why = stop.map(|(station, number)| format!("station {station}, number {number}"));
-            (summary.count(&answer), why, report.json)
-        }
+        Ok(Checking { answer, report, why }) => (summary.count(&answer), why, report.json),
         Err(mistake) => {
             summary.not_read += 1;
             (
@@ -125,7 +115,7 @@ fn one(files: &Files, entry: &Entry<'_>, between: &Between, as_json: bool, summa
         json.push(("line", Json::number(entry.line)));
         json.push(("path_file", name(0)));
         json.push(("plan_file", name(1)));
-        return format!("{}\n", keys::object(Some("journey"), json));
+        return format!("{}\n", names::object(Some("journey"), json));
     }
     let said: Vec<String> = names.map(|names| names.join(" ")).into_iter().chain(why).collect();
     format!("{label:<11} {}\n", said.join(": "))

@@ -2,12 +2,13 @@
 
 use super::Said;
 use crate::arguments::{Arguments, Form};
-use crate::files::Files;
+use crate::files::{write_whole, Files};
 use crate::json::Json;
 use crate::mistake::{mistake, Checked};
 use crate::report::Report;
 use std::ffi::{OsStr, OsString};
 use std::path::Path;
+use std::{fs, io};
 
 pub const FORM: Form = Form {
     command: "demo",
@@ -23,22 +24,22 @@ const FILES: [(&str, &str); 3] = [
     ("late.txt", include_str!("../../../../examples/site/late.txt")),
 ];
 
-/// The calls that make the other files of the example.
-const MADE: [(&str, &str); 3] = [
-    ("site.plan", "plan plan.txt -o site.plan"),
-    ("good.path", "sign good.txt --plan site.plan -o good.path"),
-    ("late.path", "sign late.txt --plan site.plan -o late.path"),
-];
+const PLAN: &str = "plan plan.txt -o site.plan";
+const GOOD: &str = "sign good.txt --plan site.plan -o good.path";
+const LATE: &str = "sign late.txt --plan site.plan -o late.path";
+
+/// The other files of the example, and the calls that make them.
+const MADE: [(&str, &str); 3] = [("site.plan", PLAN), ("good.path", GOOD), ("late.path", LATE)];
 
 /// What is said, and the call behind it.
 const STEPS: [(&str, &str); 8] = [
     (
         "The plan in plan.txt becomes bytes, as the journey check reads them.",
-        "plan plan.txt -o site.plan",
+        PLAN,
     ),
     (
         "The path in good.txt becomes a header. Its MACs are worked out under the keys of the plan.",
-        "sign good.txt --plan site.plan -o good.path",
+        GOOD,
     ),
     (
         "This is the header. Hop 1 and hop 2 belong to the core: there the path changes from one segment to the next.",
@@ -50,7 +51,7 @@ const STEPS: [(&str, &str); 8] = [
     ),
     (
         "The path in late.txt goes the same way, but the hop of the switch room lasts an hour only.",
-        "sign late.txt --plan site.plan -o late.path",
+        LATE,
     ),
     (
         "It does not pass: at eleven the switch room turns it down.",
@@ -143,31 +144,39 @@ fn indented(text: &str) -> String {
     text.lines().map(line).collect()
 }
 
-fn write(folder: &OsStr) -> Checked<Report> {
-    let folder = Path::new(folder);
-    let failed = |error: std::io::Error| {
+fn write(name: &OsStr) -> Checked<Report> {
+    if name.is_empty() || name == "-" {
+        return mistake("--write takes a folder: name one, as `rehearse demo --write site`");
+    }
+    let folder = Path::new(name);
+    let failed = |name: &Path, error: io::Error| {
         mistake(format!(
             "{} can't be written ({error}): name a folder that you may write to",
-            folder.display()
+            name.display()
         ))
     };
-    if let Err(error) = std::fs::create_dir_all(folder) {
-        return failed(error);
+    if let Err(error) = fs::create_dir_all(folder) {
+        return failed(folder, error);
     }
     let files = all_files()?;
-    let is_other = |(name, content): &&(&str, Vec<u8>)| {
-        let there = std::fs::read(folder.join(name));
-        there.is_ok_and(|there| there != *content)
-    };
-    if let Some((name, _)) = files.iter().find(is_other) {
-        return mistake(format!(
-            "{} is there already and is not the example's: name another folder",
-            folder.join(name).display()
-        ));
+    // Nothing is written where something of another's stands in the way.
+    for (name, content) in &files {
+        let name = folder.join(name);
+        let is_ours = match fs::read(&name) {
+            Ok(there) => there == *content,
+            Err(error) => error.kind() == io::ErrorKind::NotFound,
+        };
+        if !is_ours {
+            return mistake(format!(
+                "{} is there already and is not the example's: name another folder",
+                name.display()
+            ));
+        }
     }
     for (name, content) in &files {
-        if let Err(error) = std::fs::write(folder.join(name), content) {
-            return failed(error);
+        let name = folder.join(name);
+        if let Err(error) = write_whole(&name, content) {
+            return failed(&name, error);
         }
     }
     let names: Vec<&str> = files.iter().map(|&(name, _)| name).collect();

@@ -4,6 +4,7 @@ use super::read_path;
 use crate::answers;
 use crate::arguments::{Arguments, Form};
 use crate::files::Files;
+use crate::header::Header;
 use crate::mistake::Checked;
 use crate::report::Report;
 
@@ -15,7 +16,13 @@ pub const FORM: Form = Form {
 };
 
 pub fn run(arguments: &Arguments, files: &Files) -> Checked<Report> {
-    let path = read_path(arguments, files)?;
+    let mut notes = Vec::new();
+    let path = read_path(arguments, files, &mut notes)?;
     let answer = answers::of_expiration(standard_path::expiration(&path));
-    Ok(Report::of("expiration", &answer))
+    let mut report = Report::of("expiration", &answer);
+    if answer.is_good && Header(&path).has_gap() {
+        notes.push("the segments behind the first empty one are not looked at".into());
+    }
+    report.notes = notes;
+    Ok(report)
 }

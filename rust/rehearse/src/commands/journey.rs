@@ -7,13 +7,13 @@ use crate::dates;
 use crate::drive;
 use crate::files::{Files, Spelling};
 use crate::header::Header;
-use crate::itinerary;
+use crate::itinerary::{self, Read};
 use crate::json::Json;
 use crate::mistake::Checked;
 use crate::plan;
 use crate::report::{counted, Report};
 use crate::seen;
-use standard_path::{check_journey, JourneyError, ScionNetworkTime, Verdict};
+use standard_path::{check_journey, ScionNetworkTime, Verdict};
 use std::ffi::OsStr;
 
 pub const FORM: Form = Form {
@@ -62,65 +62,61 @@ pub fn between(arguments: &Arguments) -> Checked<Between> {
 pub struct Checking {
     pub answer: Answer,
     pub report: Report,
-    /// The station that stops a path that does not pass, and the number of its answer.
-    pub stop: Option<(usize, u16)>,
+    /// The first thing to look at, in a sentence.
+    pub why: Option<String>,
 }
 
 /// Checks one path over one plan.
 pub fn check(files: &Files, path: &OsStr, plan: &OsStr, between: &Between) -> Checked<Checking> {
-    let &Between {
-        earliest,
-        latest,
-        spelling,
-        ..
-    } = between;
-    let path = files.read_path(path, spelling)?;
-    let plan = plan::read(files, plan, spelling)?;
-    let [from, to] = [earliest, latest].map(ScionNetworkTime::from_timestamp_secs);
-    let verdict = check_journey(&path, &plan, from, to);
+    let path = files.read_path(path, between.spelling)?;
+    let plan = plan::read(files, plan, between.spelling)?;
+    let readings = [between.earliest, between.latest];
+    let [earliest, latest] = readings.map(ScionNetworkTime::from_timestamp_secs);
+    let verdict = check_journey(&path, &plan, earliest, latest);
     let answer = answers::of_journey(verdict);
 
-    let mut report = Report::of("journey", &answer);
-    let (header, read) = (Header(&path), itinerary::read(&plan));
-    let stations = &read.stations;
-    let (hops, infos) = (header.hops(), header.infos());
-    report.line(
-        "path",
-        format!("{}, {}", counted(hops, "hop"), counted(infos, "info field")),
-    );
-    report.line("plan", counted(stations.len(), "station"));
+    let mut report = Report::headed("journey", &answer);
+    let read = itinerary::read(&plan);
+    asked(&path, &read, readings, &mut report);
+    let why = match verdict {
+        Ok(Verdict::Passed) => {
+            let seen = seen::not_asked(Header(&path), &read.stations);
+            report.list("not asked", "not_asked", seen)
+        }
+        Ok(Verdict::NotPassed) => where_it_stops(&path, &read.stations, readings, &mut report),
+        Err(error) => {
+            let seen = seen::beside(error, &path, &read, readings);
+            report.list("seen", "seen", seen)
+        }
+    };
+    report.lines(&answer.details());
+    Ok(Checking { answer, report, why })
+}
+
+/// What the library was asked about.
+fn asked(path: &[u8], read: &Read, [earliest, latest]: [u32; 2], report: &mut Report) {
+    let header = Header(path);
+    let (hops, infos, stations) = (header.hops(), header.infos(), read.stations.len());
+    let size = match path.len() {
+        0..=3 => counted(path.len(), "byte"),
+        _ => format!("{}, {}", counted(hops, "hop"), counted(infos, "info field")),
+    };
+    report.line("path", size);
+    report.line("plan", counted(stations, "station"));
     report.line(
         "readings",
         format!("from {} to {}", dates::both(earliest), dates::both(latest)),
     );
-    for (name, value) in [("hops", hops), ("infos", infos), ("stations", stations.len())] {
+    for (name, value) in [("hops", hops), ("infos", infos), ("stations", stations)] {
         report.member(name, Json::number(value));
     }
     report.member("earliest", Json::number(earliest));
     report.member("latest", Json::number(latest));
-    let stop = match verdict {
-        Ok(Verdict::NotPassed) => where_it_stops(&path, stations, [earliest, latest], &mut report),
-        _ => None,
-    };
-    let (stop, stops) = stop.unzip();
-    report.member("stops", stops.unwrap_or(Json::Null));
-    if verdict == Err(JourneyError::UnfitItinerary) {
-        let seen = seen::in_plan(header, &read, earliest, latest);
-        for (at, line) in seen.iter().enumerate() {
-            report.line(if at == 0 { "seen in plan" } else { "" }, line);
-        }
-        report.member("seen", Json::List(seen.into_iter().map(Json::Text).collect()));
-    }
-    Ok(Checking { answer, report, stop })
 }
 
-/// Drives the path with every clock at the earliest reading, then at the latest, until a station holds it.
-fn where_it_stops(
-    path: &[u8],
-    stations: &[plan::Station],
-    readings: [u32; 2],
-    report: &mut Report,
-) -> Option<((usize, u16), Json)> {
+/// Drives the path with every clock at the earliest reading, then at the latest, until a station holds it. Gives that in a
+/// sentence.
+fn where_it_stops(path: &[u8], stations: &[plan::Station], readings: [u32; 2], report: &mut Report) -> Option<String> {
     for reading in readings {
         let Some(drive::Stop { station, answer }) = drive::stop(path, stations, reading) else {
             report.line("arrives", format!("with every clock at {}", dates::both(reading)));
@@ -128,11 +124,19 @@ fn where_it_stops(
         };
         report.line(
             "stops",
-            format!("at station {station}, with every clock at {}", dates::both(reading)),
+            format!(
+                "at station {station} (arrival {}), with every clock at {}",
+                stations[station].arrival,
+                dates::both(reading)
+            ),
         );
         report.line("", answer.headline());
         report.lines(&answer.about());
-        return Some(((station, answer.number), stop_json(station, reading, &answer)));
+        report.member("stops", stop_json(station, reading, &answer));
+        return Some(format!(
+            "station {station}, number {}: {}",
+            answer.number, answer.sentence
+        ));
     }
     None
 }
@@ -140,5 +144,6 @@ fn where_it_stops(
 fn stop_json(station: usize, reading: u32, answer: &Answer) -> Json {
     let mut members = vec![("station", Json::number(station)), ("reading", Json::number(reading))];
     members.extend(answer.json("step").into_iter().filter(|(name, _)| *name != "command"));
+    members.push(("named_hops", answer.hops_json()));
     Json::Object(members)
 }

@@ -4,7 +4,7 @@ mod batch;
 mod demo;
 mod expiration;
 mod journey;
-mod keys;
+mod names;
 mod plan;
 mod reverse;
 mod show;
@@ -13,11 +13,13 @@ mod step;
 
 use crate::arguments::{Arguments, Form};
 use crate::dates;
-use crate::files::{Files, Spelling};
+use crate::files::{shown, Files, Spelling};
 use crate::hex;
 use crate::json::Json;
 use crate::mistake::{Checked, Mistake};
+use crate::nearest::nearest;
 use crate::report::Report;
+use crate::seen;
 use std::ffi::{OsStr, OsString};
 
 /// What a call writes and how it ends.
@@ -105,7 +107,9 @@ pub fn run(words: &[OsString], files: &Files) -> Said {
     };
     let Some(command) = COMMANDS.iter().find(|command| name == command.form.command) else {
         let word = name.to_string_lossy();
-        let sentence = format!("`{word}` is not a command of rehearse: see `rehearse --help`");
+        let meant = nearest(&word, COMMANDS.iter().map(|command| command.form.command));
+        let meant = meant.map_or(String::new(), |name| format!(", but {name} is"));
+        let sentence = format!("`{word}` is not a command of rehearse{meant}: see `rehearse --help`");
         return wrong(None, &Mistake(sentence), as_json);
     };
     let words = &words[1..];
@@ -137,7 +141,7 @@ fn finished(command: &str, report: Report, as_json: bool) -> Said {
     if as_json {
         json.push(("notes", Json::List(notes.into_iter().map(Json::Text).collect())));
         return Said {
-            out: format!("{}\n", keys::object(Some(command), json)),
+            out: format!("{}\n", names::object(Some(command), json)),
             err: String::new(),
             status,
         };
@@ -148,7 +152,7 @@ fn finished(command: &str, report: Report, as_json: bool) -> Said {
 
 /// A mistake in the call: a sentence on standard error, with `--json` an object as well.
 fn wrong(command: Option<&'static str>, mistake: &Mistake, as_json: bool) -> Said {
-    let object = || format!("{}\n", keys::object(command, mistake.json(command)));
+    let object = || format!("{}\n", names::object(command, mistake.json(command)));
     Said {
         out: if as_json { object() } else { String::new() },
         err: format!("rehearse: {}\n", mistake.0),
@@ -167,10 +171,34 @@ fn spelling(arguments: &Arguments) -> Checked<Spelling> {
     }
 }
 
+/// A mistake where there is nothing that could be raw or hex.
+fn no_spelling(arguments: &Arguments) -> Checked<Spelling> {
+    match spelling(arguments)? {
+        Spelling::ByContent => Ok(Spelling::ByContent),
+        _ => arguments.wrong(
+            "--raw and --hex say how bytes are read, and this call reads a text; a file to write gets hex text if its name \
+             ends in .hex",
+        ),
+    }
+}
+
 const PATH: &str = "the file with the path header";
 
-fn read_path(arguments: &Arguments, files: &Files) -> Checked<Vec<u8>> {
-    files.read_path(arguments.file(0, PATH)?, spelling(arguments)?)
+/// The path, and a note if it looks like the wrong file.
+fn read_path(arguments: &Arguments, files: &Files, notes: &mut Vec<String>) -> Checked<Vec<u8>> {
+    let name = arguments.file(0, PATH)?;
+    let path = files.read_path(name, spelling(arguments)?)?;
+    notes.extend(not_a_path(&path, name));
+    Ok(path)
+}
+
+/// A note on bytes that would do as a plan.
+fn not_a_path(path: &[u8], name: &OsStr) -> Option<String> {
+    let note = || {
+        let name = shown(name);
+        format!("{name} is a plan by its bytes: `rehearse plan --show` shows it")
+    };
+    seen::plan_as_path(path).then(note)
 }
 
 /// The reading of a clock, and a note if it may have been meant otherwise.
@@ -181,12 +209,17 @@ fn reading(arguments: &Arguments, name: &str, notes: &mut Vec<String>) -> Checke
     Ok(seconds)
 }
 
-/// Writes the path that a call left, where the call asks for it.
-fn write_path(arguments: &Arguments, files: &Files, path: &[u8], report: &mut Report) -> Checked<()> {
-    if let Some(name) = arguments.value("--write") {
-        if name == "-" {
-            return arguments.wrong("--write takes a file; the header that is left is printed anyway");
-        }
+/// Where the path that a call left is to be written. As everything in the words of a call, it is asked before a file is
+/// read: standard input may be a person.
+fn left_file(arguments: &Arguments) -> Checked<Option<&OsStr>> {
+    match arguments.value("--write") {
+        Some(name) if name == "-" => arguments.wrong("--write takes a file; the header that is left is printed anyway"),
+        name => Ok(name),
+    }
+}
+
+fn write_left(file: Option<&OsStr>, files: &Files, path: &[u8], report: &mut Report) -> Checked<()> {
+    if let Some(name) = file {
         files.write(name, path, &path_lines(path))?;
         report.written(name);
     }
@@ -199,19 +232,19 @@ fn path_lines(path: &[u8]) -> String {
 }
 
 /// Where a command that makes a file writes it: a file, `-` for hex text on standard output, or nowhere with `--json`.
-fn write_made(arguments: &Arguments, files: &Files, bytes: &[u8], hex: &str, report: &mut Report) -> Checked<()> {
-    let json = arguments.flag("--json");
+fn made_file(arguments: &Arguments) -> Checked<Option<&OsStr>> {
+    let as_json = arguments.flag("--json");
     match arguments.value("-o") {
-        None if json => {}
-        None => {
-            arguments.needed("-o")?;
-        }
-        Some(name) if name == OsStr::new("-") => {
-            if json {
-                return arguments.wrong("--json has the bytes in its object: leave out `-o -`");
-            }
-            report.text = hex.into();
-        }
+        None if as_json => Ok(None),
+        Some(name) if name == "-" && as_json => arguments.wrong("--json has the bytes in its object: leave out `-o -`"),
+        _ => arguments.given("-o").map(Some),
+    }
+}
+
+fn write_made(file: Option<&OsStr>, files: &Files, bytes: &[u8], hex: &str, report: &mut Report) -> Checked<()> {
+    match file {
+        None => {}
+        Some(name) if name == "-" => report.text = hex.into(),
         Some(name) => {
             files.write(name, bytes, hex)?;
             report.written(name);

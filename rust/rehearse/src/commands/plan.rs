@@ -1,6 +1,6 @@
 //! `rehearse plan`: a site plan from its text form into bytes, and back.
 
-use super::{spelling, write_made};
+use super::{made_file, no_spelling, spelling, write_made};
 use crate::answers;
 use crate::arguments::{Arguments, Form};
 use crate::files::{shown, Files};
@@ -8,8 +8,9 @@ use crate::hex;
 use crate::itinerary;
 use crate::json::Json;
 use crate::mistake::Checked;
-use crate::plan;
+use crate::plan::{self, Station};
 use crate::report::{counted, Report};
+use crate::seen;
 use standard_path::JourneyError;
 use std::ffi::OsStr;
 
@@ -36,33 +37,50 @@ pub fn run(arguments: &Arguments, files: &Files) -> Checked<Report> {
 
 fn write(arguments: &Arguments, files: &Files) -> Checked<Report> {
     let name = arguments.file(0, "the file with the plan's text form")?;
+    let file = made_file(arguments)?;
+    no_spelling(arguments)?;
     let stations = plan::from_text(&files.read_text(name)?, &shown(name))?;
     let bytes = itinerary::to_bytes(&stations)?;
-    let fits = itinerary::fits_some_path(&bytes, stations.len());
-    let mut report = Report::done("plan", "written", String::new());
-    let records = bytes.len() / 32;
+    let refused = turned_down(&bytes, &stations);
+    let mut report = match &refused {
+        None => Report::done("plan", "written", String::new()),
+        Some(_) => refusal(),
+    };
     report.text = format!(
         "a plan of {} in {}\n",
         counted(stations.len(), "station"),
-        counted(records, "record")
+        counted(bytes.len() / 32, "record")
     );
-    if !fits {
-        report.notes.push(turned_down(stations.len()));
-    }
     report.member("stations", Json::number(stations.len()));
-    report.member("fits_some_path", Json::Flag(fits));
+    report.member("fits_some_path", Json::Flag(refused.is_none()));
     report.member("plan", Json::text(hex::to_hex(&bytes)));
-    write_made(arguments, files, &bytes, &hex::lines(&bytes, []), &mut report)?;
+    report.notes.extend(refused);
+    write_made(file, files, &bytes, &hex::lines(&bytes, []), &mut report)?;
     Ok(report)
 }
 
-/// A sentence on a plan that fits no path.
-pub fn turned_down(stations: usize) -> String {
-    let why = match stations {
-        0..=63 => "see number 23 in docs/GUIDE.md".into(),
-        _ => format!("it has {stations} stations, and no path has more than 63"),
-    };
-    format!("question 23 turns this plan down for every path: {why}")
+/// A sentence on a plan that fits no path, with what is seen in it.
+pub fn turned_down(plan: &[u8], stations: &[Station]) -> Option<String> {
+    if itinerary::fits_some_path(plan, stations.len()) {
+        return None;
+    }
+    let mut odd = Vec::new();
+    match stations.len() {
+        0 => odd.push("it has no station".into()),
+        1..=63 => {}
+        count => odd.push(format!("it has {count} stations, and no path has more than 63")),
+    }
+    odd.extend(seen::odd_stations(stations));
+    if odd.is_empty() {
+        odd.push("see number 23 in docs/GUIDE.md".into());
+    }
+    let odd = odd.join("; ");
+    Some(format!("question 23 turns this plan down for every path: {odd}"))
+}
+
+/// The library's answer to a plan that fits no path.
+fn refusal() -> Report {
+    Report::of("plan", &answers::of_journey(Err(JourneyError::UnfitItinerary)))
 }
 
 fn show(arguments: &Arguments, files: &Files, name: &OsStr) -> Checked<Report> {
@@ -71,18 +89,20 @@ fn show(arguments: &Arguments, files: &Files, name: &OsStr) -> Checked<Report> {
     }
     let bytes = plan::read(files, name, spelling(arguments)?)?;
     let read = itinerary::read(&bytes);
-    let fits = itinerary::fits_some_path(&bytes, read.stations.len());
-    let mut remarks = Vec::new();
-    if !fits {
-        remarks.push(turned_down(read.stations.len()));
-    }
-    remarks.extend(read.remarks);
-    if itinerary::to_bytes(&read.stations).ok().as_ref() != Some(&bytes) {
-        remarks.push("the records are laid out otherwise than `rehearse plan` lays out this text".into());
+    let refused = turned_down(&bytes, &read.stations);
+    let fits = refused.is_none();
+    let mut remarks: Vec<String> = refused.into_iter().chain(read.remarks).collect();
+    match itinerary::to_bytes(&read.stations) {
+        Ok(again) if again == bytes => {}
+        Ok(_) => remarks.push("the records are laid out otherwise than `rehearse plan` lays out this text".into()),
+        Err(_) => remarks.push(
+            "stations share records here: `rehearse plan` does not share any, and can't write this text in 2,048 of them"
+                .into(),
+        ),
     }
     let mut report = match fits {
         true => Report::done("plan", "shown", String::new()),
-        false => Report::of("plan", &answers::of_journey(Err(JourneyError::UnfitItinerary))),
+        false => refusal(),
     };
     let comments: String = remarks.iter().map(|remark| format!("# {remark}\n")).collect();
     let text = plan::to_text(&read.stations);

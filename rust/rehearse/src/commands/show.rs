@@ -1,16 +1,20 @@
 //! `rehearse show`: a path header in words and numbers.
 
 use super::read_path;
-use crate::answers;
+use crate::answers::{self, Answer};
 use crate::arguments::{Arguments, Form};
 use crate::dates;
 use crate::files::Files;
 use crate::header::{Header, Hop, Info, Segment};
 use crate::hex::to_hex;
+use crate::hop_words;
 use crate::json::Json;
 use crate::mistake::Checked;
 use crate::report::{counted, Report};
-use standard_path::{calculate_segment_index, expiration, HeaderError};
+use crate::sentences::Call;
+use standard_path::{
+    calculate_segment_index, expiration, standard_path_ingress, HeaderError, Interfaces, ScionNetworkTime,
+};
 
 pub const FORM: Form = Form {
     command: "show",
@@ -20,10 +24,14 @@ pub const FORM: Form = Form {
 };
 
 pub fn run(arguments: &Arguments, files: &Files) -> Checked<Report> {
-    let path = read_path(arguments, files)?;
+    let mut notes = Vec::new();
+    let path = read_path(arguments, files, &mut notes)?;
     let header = Header(&path);
     let mut report = match expiration(&path) {
-        Ok(_) => whole(header),
+        Ok(_) => match at_ingress(&path) {
+            None => whole(header),
+            Some(answer) => Report::of("show", &answer),
+        },
         Err(error @ HeaderError::MetaTooShort) => return Ok(too_short(&path, error)),
         Err(error) => Report::of("show", &answers::of_header_error(error)),
     };
@@ -33,6 +41,7 @@ pub fn run(arguments: &Arguments, files: &Files) -> Checked<Report> {
         segments.push(show_segment(header, &segment, &mut report));
     }
     report.member("segments", Json::List(segments));
+    report.notes = notes;
     Ok(report)
 }
 
@@ -43,6 +52,18 @@ fn too_short(path: &[u8], error: HeaderError) -> Report {
     report.line("bytes read", bytes);
     report.member("bytes_read", Json::number(path.len()));
     report
+}
+
+/// What ingress answers where the header alone is to blame: 5 to 8, which it asks before table, clock and key matter.
+fn at_ingress(path: &[u8]) -> Option<Answer> {
+    let mut left = Header(path).parts().0.to_vec();
+    let (now, none) = (
+        ScionNetworkTime::from_timestamp_secs(0),
+        Interfaces { ids: &[], states: &[] },
+    );
+    let answer = standard_path_ingress(&mut left, 0, now, &[0; 16], none, true);
+    let answer = answers::of_ingress(answer).of_call(Call::Ingress, path, &left);
+    matches!(answer.number, 5..=8).then_some(answer)
 }
 
 fn whole(header: Header<'_>) -> Report {
@@ -125,6 +146,12 @@ fn show_segment(header: Header<'_>, segment: &Segment, report: &mut Report) -> J
     } else {
         "clear: travelled against construction"
     };
+    if place != index {
+        report.line(
+            "gap",
+            format!("a segment before it is empty: the step looks for info field {place} here"),
+        );
+    }
     report.line("C", direction);
     report.line(
         "P",
@@ -166,42 +193,11 @@ fn show_segment(header: Header<'_>, segment: &Segment, report: &mut Report) -> J
 }
 
 fn show_hop(header: Header<'_>, index: usize, info: &Info, hop: &Hop, report: &mut Report) -> Json {
-    let [into, out] = hop.travel(info.cons_dir());
-    let alerts = hop.alerts(info.cons_dir());
-    let ends = hop.ends(info);
-    let alert_words = match alerts {
-        [false, false] => "no alert",
-        [true, false] => "ingress alert",
-        [false, true] => "egress alert",
-        [true, true] => "ingress and egress alert",
-    };
-    let at = header.hop_at(index);
-    report.line(
-        &format!("hop {index}"),
-        format!(
-            "in {into}, out {out}; ends {} (ExpTime {}); {alert_words}",
-            ends.map_or("never".into(), dates::date),
-            hop.exp_time()
-        ),
-    );
-    let (mac, flags) = (to_hex(&hop.mac()), hop.reserved_flags());
+    report.line(&format!("hop {index}"), hop_words::words(info, hop));
+    let (mac, flags, at) = (to_hex(&hop.mac()), hop.reserved_flags(), header.hop_at(index));
     report.line(
         "",
         format!("MAC {mac}; reserved flag bits {flags:02x}; bytes {at} to {}", at + 11),
     );
-    Json::Object(vec![
-        ("index", Json::number(index)),
-        ("in", Json::number(into)),
-        ("out", Json::number(out)),
-        ("exp_time", Json::number(hop.exp_time())),
-        ("ends", ends.map_or(Json::Null, Json::number)),
-        (
-            "ends_date",
-            ends.map_or(Json::Null, |ends| Json::text(dates::date(ends))),
-        ),
-        ("ingress_alert", Json::Flag(alerts[0])),
-        ("egress_alert", Json::Flag(alerts[1])),
-        ("reserved_flags", Json::text(format!("{flags:02x}"))),
-        ("mac", Json::text(mac)),
-    ])
+    hop_words::json(index, info, hop)
 }

@@ -1,9 +1,10 @@
 //! `rehearse sign`: a path header from its text form, its MACs worked out, and back.
 
 use super::plan::turned_down;
-use super::{path_lines, spelling, write_made};
+use super::{made_file, no_spelling, not_a_path, path_lines, spelling, write_made};
 use crate::answers;
 use crate::arguments::{Arguments, Form};
+use crate::dates;
 use crate::files::{shown, Files};
 use crate::header::Header;
 use crate::hex;
@@ -13,7 +14,10 @@ use crate::mistake::{mistake, Checked};
 use crate::path_text::{self, MOST_BEHIND};
 use crate::report::{counted, Report};
 use crate::signing::{self, Signed};
-use crate::{path_words, plan};
+use crate::{
+    path_words,
+    plan::{self, Station},
+};
 use standard_path::{expiration, HeaderError};
 use std::ffi::OsStr;
 
@@ -41,65 +45,111 @@ pub fn run(arguments: &Arguments, files: &Files) -> Checked<Report> {
 
 fn write(arguments: &Arguments, files: &Files) -> Checked<Report> {
     let name = arguments.file(0, "the file with the path's text form")?;
+    let file = made_file(arguments)?;
+    let plan_name = arguments.value("--plan");
+    let spelling = match plan_name {
+        None => no_spelling(arguments)?,
+        Some(_) => spelling(arguments)?,
+    };
     let text = path_text::from_text(&files.read_text(name)?, &shown(name))?;
-    let plan = match arguments.value("--plan") {
+    let plan = match plan_name {
         None => None,
-        Some(name) => Some(plan::read(files, name, spelling(arguments)?)?),
+        Some(name) => Some(plan::read(files, name, spelling)?),
     };
     let stations = plan.as_deref().map(|plan| itinerary::read(plan).stations);
-    let keys: Option<Vec<_>> = stations.map(|stations| stations.iter().map(|station| station.key).collect());
-    let signed = signing::sign(&text, keys.as_deref())?;
+    let keys: Vec<_> = stations.iter().flatten().map(|station| station.key).collect();
+    let signed = signing::sign(&text, &keys)?;
+    let mut report = told(&signed);
+    report
+        .notes
+        .extend(text.segments.into_iter().flatten().filter_map(|segment| segment.note));
+    if let (Some(plan), Some(stations)) = (&plan, &stations) {
+        report.notes.extend(about_plan(&signed, plan, stations));
+    }
+    if let Some(note) = without_key(&signed, stations.map(|stations| stations.len())) {
+        report.notes.push(note);
+        report.status = 1;
+    }
+    write_made(file, files, &signed.bytes, &path_lines(&signed.bytes), &mut report)?;
+    Ok(report)
+}
+
+/// What was made.
+fn told(signed: &Signed) -> Report {
     let header = Header(&signed.bytes);
-    let refused = expiration(&signed.bytes).err().map(answers::of_header_error);
+    let ends = expiration(&signed.bytes);
+    let refused = ends.err().map(answers::of_header_error);
     let mut report = match &refused {
         None => Report::done("sign", "written", String::new()),
         Some(answer) => Report::of("sign", answer),
     };
+    let (hops, infos) = (header.hops(), header.infos());
+    let kept = hops - signed.worked_out - signed.unsigned.len();
     report.text = format!(
-        "a path of {} in {}, {} worked out\n",
-        counted(header.hops(), "hop"),
-        counted(header.infos(), "segment"),
-        counted(signed.worked_out, "MAC")
+        "a path of {} in {}, {} worked out{}\n",
+        counted(hops, "hop"),
+        counted(infos, "segment"),
+        counted(signed.worked_out, "MAC"),
+        if kept == 0 {
+            String::new()
+        } else {
+            format!(", {kept} as in the text")
+        }
     );
-    report.member("hops", Json::number(header.hops()));
-    report.member("infos", Json::number(header.infos()));
+    if let Ok(time @ 1..) = ends {
+        report.line("expires", dates::both(time));
+    }
+    report.member("hops", Json::number(hops));
+    report.member("infos", Json::number(infos));
     report.member("macs_worked_out", Json::number(signed.worked_out));
+    report.member("expiration", ends.map_or(Json::Null, Json::number));
     report.member("path", Json::text(hex::to_hex(&signed.bytes)));
     if let Some(answer) = refused {
         report
             .notes
             .push(format!("the library turns this header down: {}", answer.headline()));
     }
-    if let (Some(plan), Some(keys)) = (&plan, &keys) {
-        report.notes.extend(about_plan(header, &signed, plan, keys.len()));
-    }
-    if header.hops() == 0 {
+    if hops == 0 {
         report
             .notes
             .push("the text has no hop: the header is the 4 bytes of a meta word".into());
     }
-    report.notes.extend(signed.notes);
-    write_made(arguments, files, &signed.bytes, &path_lines(&signed.bytes), &mut report)?;
-    Ok(report)
+    report
 }
 
 /// What is odd about the plan that was given.
-fn about_plan(header: Header<'_>, signed: &Signed, plan: &[u8], stations: usize) -> Vec<String> {
-    let mut notes = Vec::new();
-    if !itinerary::fits_some_path(plan, stations) {
-        notes.push(turned_down(stations));
-    }
-    if stations != header.stations() {
+fn about_plan(signed: &Signed, plan: &[u8], stations: &[Station]) -> Vec<String> {
+    let header = Header(&signed.bytes);
+    let mut notes: Vec<String> = turned_down(plan, stations).into_iter().collect();
+    if stations.len() != header.stations() {
         notes.push(format!(
             "the plan has {}, and this path asks for {} (hops - infos + 1)",
-            counted(stations, "station"),
+            counted(stations.len(), "station"),
             header.stations()
         ));
     }
-    if header.hops() > 0 && signed.worked_out == 0 && signed.notes.is_empty() {
+    if header.hops() > 0 && signed.worked_out == 0 && signed.unsigned.is_empty() {
         notes.push("--plan had no effect: each hop has a `mac` of its own".into());
     }
     notes
+}
+
+/// A note on the hops that could not be signed.
+fn without_key(signed: &Signed, stations: Option<usize>) -> Option<String> {
+    let &(first, station) = signed.unsigned.first()?;
+    let hops: Vec<String> = signed.unsigned.iter().map(|(hop, _)| hop.to_string()).collect();
+    let why = match stations {
+        None => "no plan was given (--plan)".into(),
+        Some(stations) => format!(
+            "the plan has {}, and hop {first} is for station {station}, counted from 0",
+            counted(stations, "station")
+        ),
+    };
+    let hops = match hops.len() {
+        1 => format!("hop {} has no key, so that its MAC is", hops[0]),
+        _ => format!("hops {} have no key, so that their MACs are", hops.join(", ")),
+    };
+    Some(format!("{hops} zeros: {why}"))
 }
 
 fn show(arguments: &Arguments, files: &Files, name: &OsStr) -> Checked<Report> {
@@ -132,6 +182,9 @@ fn show(arguments: &Arguments, files: &Files, name: &OsStr) -> Checked<Report> {
             ..Report::of("sign", answer)
         },
     };
+    report.member("hops", Json::number(Header(&path).hops()));
+    report.member("infos", Json::number(Header(&path).infos()));
     report.member("text", Json::text(text));
+    report.notes.extend(not_a_path(&path, name));
     Ok(report)
 }

@@ -1,15 +1,18 @@
 //! `rehearse step`, `rehearse ingress` and `rehearse egress`: what one station does with a packet.
 
-use super::{read_path, reading, write_path};
+use super::{left_file, read_path, reading, spelling, write_left, PATH};
 use crate::answers::{self, Answer};
 use crate::arguments::{Arguments, Form};
 use crate::dates;
-use crate::files::Files;
+use crate::files::{shown, Files};
 use crate::hex;
 use crate::interfaces;
+use crate::itinerary;
 use crate::json::Json;
 use crate::mistake::{mistake, Checked};
-use crate::report::Report;
+use crate::plan::{self, Station};
+use crate::report::{counted, Report};
+use crate::sentences::Call;
 use standard_path::{
     handle_standard_path, standard_path_egress, standard_path_ingress, ForwardingKey, Interfaces, ScionNetworkTime,
 };
@@ -25,6 +28,8 @@ const fn form(command: &'static str) -> Form {
                 "the station's interfaces: a file, or as 1:child:up,3:parent:up",
             ),
             ("--key", "the station's key: 32 hex digits, or @ and a file"),
+            ("--plan", "a plan, whose station is taken in place of --table and --key"),
+            ("--station", "the station's place in the plan, counted from 0"),
             ("--interface", "the interface's number"),
             ("--now", "the reading of the clock: seconds or a date"),
             ("--write", "a file to write the path to"),
@@ -54,41 +59,51 @@ impl At<'_> {
 }
 
 pub fn whole(arguments: &Arguments, files: &Files) -> Checked<Report> {
-    call("step", arguments, files, |path, at| {
+    call(Call::Step, &STEP, arguments, files, |path, at| {
         let answer = handle_standard_path(path, at.interface, at.now(), &at.key, at.table, at.ignore_macs);
         answers::of_step(answer)
     })
 }
 
 pub fn ingress(arguments: &Arguments, files: &Files) -> Checked<Report> {
-    call("ingress", arguments, files, |path, at| {
+    call(Call::Ingress, &INGRESS, arguments, files, |path, at| {
         let answer = standard_path_ingress(path, at.interface, at.now(), &at.key, at.table, at.ignore_macs);
         answers::of_ingress(answer)
     })
 }
 
 pub fn egress(arguments: &Arguments, files: &Files) -> Checked<Report> {
-    call("egress", arguments, files, |path, at| {
+    call(Call::Egress, &EGRESS, arguments, files, |path, at| {
         let answer = standard_path_egress(path, at.interface, at.now(), &at.key, at.table, at.ignore_macs);
         answers::of_step(answer)
     })
 }
 
 fn call(
-    command: &'static str,
+    call: Call,
+    form: &Form,
     arguments: &Arguments,
     files: &Files,
     library: impl Fn(&mut [u8], &At<'_>) -> Answer,
 ) -> Checked<Report> {
-    let before = read_path(arguments, files)?;
-    arguments.needed("--table")?;
-    let table = interfaces::table(files, arguments.value("--table").unwrap_or_default())?;
-    let (ids, states): (Vec<u16>, Vec<u8>) = table.into_iter().unzip();
+    arguments.file(0, PATH)?;
+    let source = source(arguments)?;
+    // The packet leaves egress by an interface that no plan has a word for.
+    let interface = match (&source, arguments.value("--interface")) {
+        (Source::Plan { .. }, None) if call != Call::Egress => None,
+        _ => Some(arguments.interface("--interface")?),
+    };
     let mut notes = Vec::new();
+    let now = reading(arguments, "--now", &mut notes)?;
+    let file = left_file(arguments)?;
+
+    let station = read_station(arguments, files, source)?;
+    let before = read_path(arguments, files, &mut notes)?;
+    let (ids, states): (Vec<u16>, Vec<u8>) = station.interfaces.into_iter().unzip();
     let at = At {
-        key: key(files, arguments.needed("--key")?)?,
-        interface: arguments.interface("--interface")?,
-        now: reading(arguments, "--now", &mut notes)?,
+        interface: interface.unwrap_or(station.arrival),
+        now,
+        key: station.key,
         table: Interfaces {
             ids: &ids,
             states: &states,
@@ -96,17 +111,68 @@ fn call(
         ignore_macs: arguments.flag("--ignore-macs"),
     };
     let mut path = before.clone();
-    let answer = library(&mut path, &at).leaving(&path);
-    let mut report = Report::of(command, &answer);
+    let answer = library(&mut path, &at).of_call(call, &before, &path);
+    let mut report = Report::of(form.command, &answer);
     report.line("now", dates::both(at.now));
     report.member("now", Json::number(at.now));
+    report.member("named_hops", answer.hops_json());
     report.notes = notes;
     report.path_left(&before, &path);
-    write_path(arguments, files, &path, &mut report)?;
+    write_left(file, files, &path, &mut report)?;
     Ok(report)
 }
 
-fn key(files: &Files, given: &str) -> Checked<ForwardingKey> {
+// ---- the station
+
+/// Where the station's table and key stand.
+enum Source<'a> {
+    Words { table: &'a OsStr, key: &'a str },
+    Plan { name: &'a OsStr, station: usize },
+}
+
+fn source(arguments: &Arguments) -> Checked<Source<'_>> {
+    let Some(name) = arguments.value("--plan") else {
+        if arguments.value("--station").is_some() {
+            return arguments.wrong("--station goes with --plan, which is missing");
+        }
+        let (table, key) = (arguments.given("--table")?, arguments.needed("--key")?);
+        return Ok(Source::Words { table, key });
+    };
+    if let Some(option) = ["--table", "--key"]
+        .iter()
+        .find(|option| arguments.value(option).is_some())
+    {
+        return arguments.wrong(format!(
+            "{option} does not go with --plan, which has the station's table and key"
+        ));
+    }
+    let station = usize::from(arguments.number("--station", "place in a plan")?);
+    Ok(Source::Plan { name, station })
+}
+
+fn read_station(arguments: &Arguments, files: &Files, source: Source<'_>) -> Checked<Station> {
+    let (name, place) = match source {
+        Source::Words { table, key } => {
+            return Ok(Station {
+                arrival: 0,
+                interfaces: interfaces::table(files, table)?,
+                key: read_key(files, key)?,
+            })
+        }
+        Source::Plan { name, station } => (name, station),
+    };
+    let mut stations = itinerary::read(&plan::read(files, name, spelling(arguments)?)?).stations;
+    match place < stations.len() {
+        true => Ok(stations.swap_remove(place)),
+        false => mistake(format!(
+            "--station: {} has {} and no station {place}: they are counted from 0",
+            shown(name),
+            counted(stations.len(), "station")
+        )),
+    }
+}
+
+fn read_key(files: &Files, given: &str) -> Checked<ForwardingKey> {
     let Some(name) = given.strip_prefix('@') else {
         let digits: String = given.split_whitespace().collect();
         return hex::exactly(&digits, "--key").or_else(|_| {
@@ -116,10 +182,10 @@ fn key(files: &Files, given: &str) -> Checked<ForwardingKey> {
         });
     };
     let bytes = files.read(OsStr::new(name))?;
-    let bytes = match bytes.len() {
-        16 => bytes,
-        _ if hex::is_hex(&bytes) => hex::from_hex(&bytes, name)?,
-        _ => bytes,
+    // Sixteen bytes that are hex digits all of them are half a key.
+    let bytes = match hex::is_hex(&bytes) {
+        true => hex::from_hex(&bytes, name)?,
+        false => bytes,
     };
     bytes.try_into().or_else(|bytes: Vec<u8>| {
         mistake(format!(

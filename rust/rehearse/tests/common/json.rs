@@ -28,6 +28,20 @@ impl Value {
         }
     }
 
+    /// A list of texts.
+    pub fn texts(&self, name: &str) -> Vec<&str> {
+        let Some(Value::List(items)) = self.get(name) else {
+            panic!("{name} is {:?}", self.get(name))
+        };
+        items
+            .iter()
+            .map(|item| match item {
+                Value::Text(text) => &text[..],
+                other => panic!("{name} has {other:?}"),
+            })
+            .collect()
+    }
+
     pub fn number(&self, name: &str) -> Option<u64> {
         match self.get(name) {
             Some(&Value::Number(number)) => Some(number),

@@ -11,6 +11,10 @@ use std::sync::atomic::{AtomicUsize, Ordering};
 
 pub const PROGRAM: &str = env!("CARGO_BIN_EXE_rehearse");
 
+/// The station of hall A in the example site, as options of a step.
+pub const HALL_A: &str = "--table 1:parent:up --key 30a1f2c4b5d697e8091a2b3c4d5e6f70";
+pub const READINGS: &str = "--earliest 2026-11-16T06:05:00Z --latest 2026-11-16T11:00:00Z";
+
 /// A folder of its own, removed at the end.
 pub struct Folder(pub PathBuf);
 
@@ -30,15 +34,12 @@ impl Folder {
     /// A folder with the example site, its plan as bytes and its paths signed.
     pub fn with_site() -> Folder {
         let folder = Folder::new();
-        for call in [
-            "demo --write .",
-            "plan plan.txt -o site.plan",
-            "sign good.txt --plan site.plan -o good.path",
-            "sign late.txt --plan site.plan -o late.path",
-        ] {
-            assert_eq!(folder.run(call).status, 0, "{call}");
-        }
+        assert_eq!(folder.run("demo --write .").status, 0);
         folder
+    }
+
+    pub fn text(&self, name: &str) -> String {
+        String::from_utf8(self.read(name)).unwrap()
     }
 
     pub fn write(&self, name: &str, content: impl AsRef<[u8]>) {

@@ -31,7 +31,7 @@ fn further(command: &str) -> &'static [&'static str] {
             "expiration",
             "segments",
         ],
-        "step" | "ingress" | "egress" => &["now", "bytes_changed", "path", "bytes_behind", "written"],
+        "step" | "ingress" | "egress" => &["now", "named_hops", "bytes_changed", "path", "bytes_behind", "written"],
         "reverse" => &["bytes_changed", "path", "bytes_behind", "written"],
         "journey" => &[
             "hops",
@@ -41,6 +41,7 @@ fn further(command: &str) -> &'static [&'static str] {
             "latest",
             "stops",
             "seen",
+            "not_asked",
             "line",
             "path_file",
             "plan_file",
@@ -52,7 +53,15 @@ fn further(command: &str) -> &'static [&'static str] {
             "not_read",
         ],
         "plan" => &["stations", "fits_some_path", "plan", "remarks", "text", "written"],
-        "sign" => &["hops", "infos", "macs_worked_out", "path", "text", "written"],
+        "sign" => &[
+            "hops",
+            "infos",
+            "macs_worked_out",
+            "expiration",
+            "path",
+            "text",
+            "written",
+        ],
         _ => &[],
     }
 }
