@@ -195,6 +195,57 @@ mod tests {
         assert_eq!(read.remarks[20], "and 81 more");
     }
 
+    #[test]
+    fn what_is_odd_about_records_is_remarked() {
+        let station = |arrival| Station {
+            arrival,
+            key: [0; 16],
+            interfaces: vec![(1, 4), (2, 6)],
+        };
+        let bytes = to_bytes(&[station(0), station(1)]).unwrap();
+        assert_eq!(bytes.len(), 7 * RECORD);
+        for (at, byte, remark) in [
+            (1, 7, "a chain of station records leads to record 7, and the plan has 7"),
+            (2 * RECORD + 1, 1, "a chain of station records goes back to record 1"),
+            (2 * RECORD + 1, 2, "a chain of station records goes back to record 2"),
+            (4 * RECORD + 1, 3, "a chain of interface records goes back to record 3"),
+            (
+                RECORD + 5,
+                9,
+                "a chain of interface records leads to record 9, and the plan has 7",
+            ),
+            (RECORD + 5, 2, "record 2 is both a station and an interface"),
+            (RECORD + 6, 1, "byte 6 of record 1, a station, is not zero"),
+            (RECORD + 24, 1, "byte 24 of record 1, a station, is not zero"),
+            (3 * RECORD + 5, 1, "byte 5 of record 3, an interface, is not zero"),
+            (2, 1, "byte 2 of record 0 is not zero"),
+        ] {
+            let mut bytes = bytes.clone();
+            bytes[at] = byte;
+            let remarks = read(&bytes).remarks;
+            assert!(remarks.iter().any(|said| said == remark), "{remark}: {remarks:?}");
+            assert!(!fits_some_path(&bytes, 2), "{remark}");
+        }
+        assert_eq!(
+            read(&bytes[..6 * RECORD + 31]).remarks[0],
+            "223 bytes are no whole number of records of 32 bytes"
+        );
+    }
+
+    #[test]
+    fn a_plan_takes_2_048_records() {
+        let plan = |interfaces: u16| {
+            let interfaces = (0..interfaces).map(|number| (number, 4)).collect();
+            to_bytes(&[Station {
+                arrival: 0,
+                key: [0; 16],
+                interfaces,
+            }])
+        };
+        assert_eq!(plan(2_046).unwrap().len(), 2_048 * RECORD);
+        assert!(plan(2_047).is_err());
+    }
+
     /// A thousand stations that share a chain of a thousand interfaces: what is read of them has an end.
     #[test]
     fn shared_records_are_read_up_to_a_limit() {

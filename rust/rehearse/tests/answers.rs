@@ -132,6 +132,54 @@ fn the_header_s_fields_are_in_json() {
     assert_eq!(hops[1].text("ends_date"), "2026-11-16T12:00:00Z");
 }
 
+/// A header in which no two fields are alike, in words and in JSON.
+#[test]
+fn each_field_is_shown_as_it_is() {
+    let folder = Folder::new();
+    folder.write(
+        "odd.hex",
+        "01 a4 20 80  f70b 1234 00000400  0a0c 5678 00000800
+         f6 01 0003 0004 0102030405a6  fb 00 0005 0006 1112131415b6  fd 02 0007 0008 2122232425c6  05 03 0009 000a 3132333435d6  ff",
+    );
+    let shown = folder.run("show odd.hex");
+    assert_eq!((shown.status, &shown.err[..]), (0, ""));
+    for line in [
+        "whole: a header of 68 bytes, and 1 byte behind it",
+        "    indices      CurrINF 0, CurrHF 1",
+        "    lengths      2, 2, 0: 4 hops, 2 info fields",
+        "    reserved     41 (6 bits)",
+        "    P            set: a peering segment",
+        "    C            set: travelled as constructed",
+        "    SegID        1234",
+        "    timestamp    1970-01-01T00:17:04Z (1024)",
+        "    reserved     flag bits f4, byte 0b",
+        "    hop 0        in 3, out 4; ends 1970-01-01T00:28:19Z (ExpTime 1); ingress alert",
+        "                 MAC 0102030405a6; reserved flag bits f4; bytes 20 to 31",
+        "    hop 1        in 5, out 6; ends 1970-01-01T00:22:41Z (ExpTime 0); ingress and egress alert",
+        "    C            clear: travelled against construction",
+        "    reserved     flag bits 08, byte 0c",
+        "    hop 2        in 8, out 7; ends 1970-01-01T00:51:00Z (ExpTime 2); ingress alert",
+        "    hop 3        in 10, out 9; ends 1970-01-01T00:56:38Z (ExpTime 3); ingress alert",
+    ] {
+        assert!(shown.out.lines().any(|said| said == line), "{line}\n{}", shown.out);
+    }
+    let json = folder.run("show odd.hex --json").out;
+    for part in [
+        r#""curr_inf":0,"curr_hf":1,"reserved":41,"lengths":[2,2,0],"#,
+        r#""cons_dir":true,"peering":true,"seg_id":"1234","timestamp":1024,"#,
+        r#""timestamp_date":"1970-01-01T00:17:04Z","reserved_flags":"f4","reserved":"0b","#,
+        r#""index":0,"in":3,"out":4,"exp_time":1,"ends":1699,"ends_date":"1970-01-01T00:28:19Z","#,
+        r#""ingress_alert":true,"egress_alert":false,"reserved_flags":"f4","mac":"0102030405a6"}"#,
+        r#""ingress_alert":true,"egress_alert":true,"reserved_flags":"f8","mac":"1112131415b6"}"#,
+        r#""cons_dir":false,"peering":true,"seg_id":"5678","timestamp":2048,"#,
+        r#""index":2,"in":8,"out":7,"exp_time":2,"#,
+        r#""ingress_alert":true,"egress_alert":false,"reserved_flags":"fc","mac":"2122232425c6"}"#,
+        r#""bytes_read":69,"bytes_behind":1,"#,
+    ] {
+        assert!(json.contains(part), "{part}\n{json}");
+    }
+}
+
 #[test]
 fn inputs_are_the_same_in_every_form() {
     let folder = folder();

@@ -268,7 +268,17 @@ fn a_mistake_in_a_text_names_its_line() {
 #[test]
 fn a_reader_that_goes_away_is_no_fault() {
     let folder = Folder::with_site();
-    for call in ["demo", "show good.path", "--help", "show good.path --json"] {
+    // The last writes more than a pipe holds.
+    let mut long = folder.read("good.path");
+    long.resize(1 << 20, 7);
+    folder.write("long", long);
+    for call in [
+        "demo",
+        "show good.path",
+        "--help",
+        "show good.path --json",
+        "sign --show long",
+    ] {
         let command = format!("{PROGRAM} {call} 2>err | true; cat err");
         let output = Command::new("sh")
             .args(["-c", &command])
@@ -292,6 +302,26 @@ fn a_screen_that_can_not_be_written_is_said() {
         .unwrap();
     assert_eq!(output.status.code(), Some(2));
     assert!(String::from_utf8_lossy(&output.stderr).starts_with("rehearse: standard output can't be written"));
+}
+
+/// The limit of what is read is 64 MiB, to the byte.
+#[test]
+fn a_file_is_read_up_to_its_limit() {
+    let folder = Folder::new();
+    let file = std::fs::File::create(folder.0.join("long")).unwrap();
+    for (size, status) in [(64 << 20, 1), ((64 << 20) + 1, 2)] {
+        file.set_len(size).unwrap();
+        for call in ["expiration long --raw", "show long --raw"] {
+            let ran = folder.run(call);
+            let expected = if call.starts_with("expiration") && status == 1 {
+                0
+            } else {
+                status
+            };
+            assert_eq!(ran.status, expected, "{call}");
+            assert_eq!(ran.err.contains("more than 64 MiB"), status == 2, "{call}");
+        }
+    }
 }
 
 #[test]
