@@ -101,7 +101,7 @@ impl Answer {
     pub fn about(&self) -> Vec<(String, String)> {
         let mut lines = Vec::new();
         for (index, info, hop) in &self.hops {
-            lines.push((format!("hop {index}"), hop_words::words(info, hop)));
+            lines.push((format!("hop {index}"), hop_words::words(Some(info), hop)));
             lines.push((String::new(), hop_words::segment_words(info)));
         }
         if let Some(question) = self.question {
@@ -118,7 +118,7 @@ impl Answer {
     pub fn hops_json(&self) -> Json {
         let hops = self.hops.iter();
         Json::List(
-            hops.map(|(index, info, hop)| hop_words::json(*index, info, hop))
+            hops.map(|(index, info, hop)| hop_words::json(*index, Some(info), hop))
                 .collect(),
         )
     }

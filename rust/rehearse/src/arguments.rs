@@ -136,7 +136,7 @@ impl Arguments {
         let value = self.given(name)?;
         value
             .to_str()
-            .ok_or_else(|| Mistake(format!("{name}: `{}` is no text", value.to_string_lossy())))
+            .ok_or_else(|| Mistake(format!("{name}: `{}` is no UTF-8: rename it", value.to_string_lossy())))
     }
 
     pub fn place(&self, at: usize) -> Option<&OsStr> {

@@ -125,7 +125,7 @@ impl Files {
                 }
                 write_whole(Path::new(name), content).or_else(|error| {
                     mistake(format!(
-                        "{} can't be written ({error}): name a file in a folder that you may write to",
+                        "{} can't be written ({error}): name a file in a folder that you may write to, with space left",
                         shown(name)
                     ))
                 })
@@ -286,7 +286,7 @@ fn cannot_read<T>(name: &OsStr, error: &io::Error) -> Checked<T> {
     mistake(match error.kind() {
         ErrorKind::NotFound => format!("{name} is not there: check the name and the folder that you are in"),
         ErrorKind::PermissionDenied => format!("{name} may not be read: ask for the right to read it"),
-        _ => format!("{name} can't be read ({error})"),
+        _ => format!("{name} can't be read ({error}): check the name, or name another file"),
     })
 }
 

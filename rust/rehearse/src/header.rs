@@ -9,8 +9,9 @@ pub struct Header<'a>(pub &'a [u8]);
 
 /// A length that is not 0, with the info field and the hops that go with it.
 pub struct Segment {
-    /// The length's place among the three.
+    /// The length's place among the three, by which the step looks for its info field.
     pub place: usize,
+    /// The info field that is written for it: they follow each other without gaps.
     pub info: usize,
     pub first_hop: usize,
     pub hops: usize,
@@ -82,14 +83,16 @@ impl<'a> Header<'a> {
         Some(Hop { bytes: *bytes })
     }
 
-    /// A hop with the info field that the step takes for it, the one at its segment's place among the three.
+    /// The info field that the step takes for the segment at a place among the three, if there is one.
+    pub fn info_in_step(&self, place: usize) -> Option<Info> {
+        self.info(place).filter(|_| place < self.infos())
+    }
+
+    /// A hop with the info field that the step takes for it.
     pub fn hop_in_step(&self, index: usize) -> Option<(Info, Hop)> {
         let segments = self.segments();
         let segment = segments.iter().rev().find(|segment| segment.first_hop <= index)?;
-        Some((
-            self.info(segment.place).filter(|_| segment.place < self.infos())?,
-            self.hop(index)?,
-        ))
+        Some((self.info_in_step(segment.place)?, self.hop(index)?))
     }
 
     pub fn segments(&self) -> Vec<Segment> {

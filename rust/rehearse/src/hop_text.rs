@@ -32,7 +32,7 @@ const HOP: &str =
 
 pub fn hop(line: &Line<'_>) -> Checked<HopText> {
     let (mut into, mut out, mut exp_time, mut mac, mut flags) = (None, None, None, None, None);
-    let mut alerts = [false; 2];
+    let mut alerts = [None; 2];
     for pair in line.words[1..].chunks(2) {
         let &[name, word] = pair else {
             return line.wrong(format!("`{}` has nothing behind it: {HOP}", pair[0]));
@@ -47,8 +47,8 @@ pub fn hop(line: &Line<'_>) -> Checked<HopText> {
                 line,
                 "`lasts` or `exp_time`",
             )?,
-            ("alert", "ingress") => alerts[0] = true,
-            ("alert", "egress") => alerts[1] = true,
+            ("alert", "ingress") => once(&mut alerts[0], true, line, "`alert ingress`")?,
+            ("alert", "egress") => once(&mut alerts[1], true, line, "`alert egress`")?,
             ("reserved_flags", word) => once(&mut flags, reserved_flags(line, word)?, line, "`reserved_flags`")?,
             ("mac", word) => once(&mut mac, line.hex(word)?, line, "`mac`")?,
             ("alert", _) => return line.wrong(format!("`alert {word}` is not known here: {HOP}")),
@@ -67,7 +67,7 @@ pub fn hop(line: &Line<'_>) -> Checked<HopText> {
         place: line.place(),
         travel: [into, out],
         exp_time,
-        alerts,
+        alerts: alerts.map(|alert| alert.is_some()),
         reserved_flags: flags.unwrap_or(0),
         mac,
     })

@@ -8,7 +8,11 @@ use standard_path::{check_journey, JourneyError, ScionNetworkTime};
 use std::collections::HashSet;
 
 const RECORD: usize = 32;
-const MOST_RECORDS: usize = 2_048;
+pub const MOST_RECORDS: usize = 2_048;
+
+pub const TOO_MANY: &str =
+    "the plan takes more than 2,048 records (1, and one for each station and each interface): leave \
+                            out interfaces that no path uses";
 
 /// The most interfaces that are read of one plan: more than all stations of a path can have.
 const MOST_INTERFACES: usize = 64 * 256;
@@ -18,10 +22,7 @@ pub fn to_bytes(stations: &[Station]) -> Checked<Vec<u8>> {
     let interfaces: usize = stations.iter().map(|station| station.interfaces.len()).sum();
     let records = 1 + stations.len() + interfaces;
     if records > MOST_RECORDS {
-        return mistake(format!(
-            "the plan takes {records} records (1, and one for each station and each interface), and 2,048 is the most: \
-             leave out interfaces that no path uses"
-        ));
+        return mistake(TOO_MANY);
     }
     let index = |index: usize| (index as u16).to_be_bytes();
     let next = |at: usize, index_of_next: usize, count: usize| index(if at + 1 < count { index_of_next } else { 0 });

@@ -1,6 +1,7 @@
 //! What went wrong with a call, as a sentence for whoever made it.
 
 use crate::json::Json;
+use crate::output::shortened;
 
 /// A mistake in the call, or a file that can't be read or written: a sentence that says what to do.
 #[derive(Debug)]
@@ -20,6 +21,7 @@ impl Mistake {
 
 pub type Checked<T> = Result<T, Mistake>;
 
-pub fn mistake<T>(sentence: impl Into<String>) -> Checked<T> {
-    Err(Mistake(sentence.into()))
+/// A mistake. A sentence may quote what it is about, which may be long.
+pub fn mistake<T>(sentence: impl AsRef<str>) -> Checked<T> {
+    Err(Mistake(shortened(sentence.as_ref())))
 }

@@ -21,6 +21,31 @@ pub fn complain(text: &str) {
     let _ = io::stderr().lock().write_all(text.as_bytes());
 }
 
+/// A text in one line, with what would move the cursor or colour the screen written out: names and texts are others'.
+pub fn printable(text: &str) -> String {
+    let mut line = String::new();
+    for letter in text.chars() {
+        match letter.is_control() {
+            true => line.extend(letter.escape_default()),
+            false => line.push(letter),
+        }
+    }
+    line
+}
+
+/// A text with its middle left out where it is too long to be read.
+pub fn shortened(text: &str) -> String {
+    let letters = text.chars().count();
+    if letters <= 1_000 {
+        return text.into();
+    }
+    let (start, end): (String, String) = (
+        text.chars().take(500).collect(),
+        text.chars().skip(letters - 300).collect(),
+    );
+    format!("{start} [{} letters left out] {end}", letters - 800)
+}
+
 /// Back to the start of a terminal's line, which is emptied.
 const CLEAR: &str = "\r\x1b[K";
 
@@ -79,5 +104,18 @@ impl Lines {
         let held = std::mem::take(&mut self.held);
         self.has_reader = self.has_reader && print(&held)?;
         Ok(())
+    }
+}
+
+#[cfg(test)]
+mod tests {
+    use super::*;
+
+    #[test]
+    fn a_text_of_others_stays_in_its_line() {
+        assert_eq!(printable("a\rb\n\u{1b}[2Kc\td é"), "a\\rb\\n\\u{1b}[2Kc\\td é");
+        assert_eq!(shortened(&"é".repeat(1_000)), "é".repeat(1_000));
+        let long = shortened(&format!("{}{}", "a".repeat(9_000), "z".repeat(300)));
+        assert!(long.starts_with("aaa") && long.ends_with(&format!(" [8500 letters left out] {}", "z".repeat(300))));
     }
 }

@@ -3,7 +3,7 @@
 use crate::files::{almost_hex, as_bytes, plain_text, shown, spelled, Files, Spelling};
 use crate::hex::to_hex;
 use crate::interfaces::{self, Interface};
-use crate::itinerary;
+use crate::itinerary::{self, MOST_RECORDS, TOO_MANY};
 use crate::kinds::{self, Kind};
 use crate::lines::{lines, once, Line};
 use crate::mistake::{mistake, Checked};
@@ -64,7 +64,12 @@ impl Draft {
 /// The stations of a text, in order. Whether a plan is sound is asked by the library, not here.
 pub fn from_text(text: &str, of: &str) -> Checked<Vec<Station>> {
     let mut drafts: Vec<Draft> = Vec::new();
+    let mut records = 1;
     for line in lines(text, of) {
+        records += usize::from(matches!(line.words[0], "station" | "interface"));
+        if records > MOST_RECORDS {
+            return line.wrong(TOO_MANY);
+        }
         match (&line.words[..], drafts.last_mut()) {
             (["station"], _) => drafts.push(Draft {
                 line: line.number,

@@ -4,6 +4,7 @@ use crate::answers::Answer;
 use crate::header::Header;
 use crate::hex::to_hex;
 use crate::json::Json;
+use crate::output::printable;
 use std::ffi::OsStr;
 
 pub struct Report {
@@ -47,7 +48,7 @@ impl Report {
     }
 
     pub fn line(&mut self, name: &str, text: impl AsRef<str>) {
-        self.text += format!("    {name:<12} {}", text.as_ref()).trim_end();
+        self.text += format!("    {name:<12} {}", printable(text.as_ref())).trim_end();
         self.text.push('\n');
     }
 

@@ -74,12 +74,12 @@ fn alerts(header: Header<'_>) -> Vec<String> {
 /// The hops' interfaces in the direction of travel, segment by segment.
 fn ways_in(header: Header<'_>) -> String {
     let segments = header.segments().into_iter().map(|segment| {
-        let Some(info) = header.info(segment.info) else {
-            return "none".into();
-        };
         let hops = (segment.first_hop..).take(segment.hops);
-        let hops = hops.map_while(|index| header.hop(index));
-        listed(hops.map(|hop| hop.travel(info.cons_dir())[0].to_string()).collect())
+        let hops = hops.map_while(|index| header.hop_in_step(index));
+        listed(
+            hops.map(|(info, hop)| hop.travel(info.cons_dir())[0].to_string())
+                .collect(),
+        )
     });
     match segments.collect::<Vec<_>>() {
         segments if segments.is_empty() => "none".into(),
@@ -159,10 +159,11 @@ pub fn not_asked(header: Header<'_>, stations: &[Station]) -> Vec<String> {
 fn open_hops(header: Header<'_>) -> Vec<String> {
     let mut open = Vec::new();
     for segment in header.segments() {
-        let Some(info) = header.info(segment.info) else { break };
         let last = segment.first_hop + segment.hops - 1;
         for index in segment.first_hop..=last {
-            let Some(hop) = header.hop(index) else { break };
+            let Some((info, hop)) = header.hop_in_step(index) else {
+                break;
+            };
             let [into, out] = hop.travel(info.cons_dir());
             if into == 0 && index != segment.first_hop {
                 open.push(format!(

@@ -251,7 +251,10 @@ fn a_plan_that_fits_no_path_is_explained_where_it_is_made() {
         shown.out
     );
     folder.write("text", &shown.out);
-    assert!(folder.run("plan text -o y").err.contains("takes 16192 records"));
+    assert!(folder
+        .run("plan text -o y")
+        .err
+        .contains("takes more than 2,048 records"));
 }
 
 #[test]
@@ -374,6 +377,11 @@ fn words_that_are_almost_right_are_named() {
             "line 2: write a time behind `timestamp`",
         ),
         (
+            "sign",
+            "segment\nhop in 1 out 2 lasts 6h alert ingress alert ingress\n",
+            "line 2: `alert ingress` stands here a second time",
+        ),
+        (
             "plan",
             "station\nkey 0x30\n",
             "`0x30` is not 32 hex digits: leave out the `0x`",
@@ -468,6 +476,58 @@ fn half_a_key_is_no_key() {
     assert_eq!(step("whole").status, 0);
 }
 
+/// Names and texts of others are quoted in one line of a screen's length, and can't move the cursor.
+#[test]
+fn what_is_quoted_is_short_and_plain() {
+    let folder = Folder::with_site();
+    folder.write("long", "a".repeat(2_000_000));
+    let ran = folder.run("sign long -o x");
+    assert!(ran.status == 2 && ran.err.len() < 1_200, "{}", ran.err.len());
+    assert!(ran.err.contains("letters left out"));
+    folder.write(
+        "list",
+        "x\rpassed      good.path site.plan\tsite.plan\ngood.path site.plan\n\u{1b}[2K x\n",
+    );
+    let ran = folder.run(&format!("journey --batch list {READINGS}"));
+    assert_eq!(ran.out.matches("there is a control character in this line").count(), 2);
+    assert!(!ran.out.contains(['\r', '\u{1b}']), "{}", ran.out);
+    for name in ["a\nb", "a\u{1b}[2Kb"] {
+        let ran = folder.call(&["show", name], b"");
+        assert_eq!(ran.err.lines().count(), 1, "{ran:?}");
+        assert!(!ran.err.contains('\u{1b}'), "{ran:?}");
+        folder.write(name, folder.read("good.path"));
+        let ran = folder.call(&["reverse", "good.path", "--write", name], b"");
+        assert!(ran.status == 0 && !ran.out.contains(name), "{ran:?}");
+    }
+}
+
+/// A list is read a line at a time, and a plan's text up to the most that a plan can hold.
+#[test]
+fn long_texts_are_given_up_early() {
+    let folder = Folder::with_site();
+    folder.write("stations", "station\n".repeat(2_000_000));
+    let ran = folder.run("plan stations -o x");
+    assert!(
+        ran.err
+            .contains("stations, line 2048: the plan takes more than 2,048 records"),
+        "{}",
+        ran.err
+    );
+    let call = format!(
+        "ulimit -v 200000; yes x | head -c 2000000 >list; {PROGRAM} journey --batch list {READINGS} | tail -n 1"
+    );
+    let ran = Command::new("sh")
+        .args(["-c", &call])
+        .current_dir(&folder.0)
+        .output()
+        .unwrap();
+    let said = String::from_utf8(ran.stdout).unwrap();
+    assert_eq!(
+        said,
+        "1000000 journeys: 0 passed, 0 not passed, 0 refused, 1000000 not read\n"
+    );
+}
+
 // ---- files that are written
 
 #[test]
@@ -524,6 +584,19 @@ fn half_a_file_is_never_left() {
     );
     assert_eq!(folder.run("reverse long --write out").status, 0);
     assert_eq!(folder.read("out").len(), 8 << 20);
+}
+
+/// A second hard link of what is read gets bytes of its own.
+#[cfg(unix)]
+#[test]
+fn what_is_read_is_not_lost_through_a_hard_link() {
+    let folder = Folder::with_site();
+    let (path, text) = (folder.read("good.path"), folder.read("good.txt"));
+    std::fs::hard_link(folder.0.join("good.path"), folder.0.join("path-link")).unwrap();
+    std::fs::hard_link(folder.0.join("good.txt"), folder.0.join("text-link")).unwrap();
+    assert_eq!(folder.run("reverse good.path --write path-link").status, 0);
+    assert_eq!(folder.run("sign good.txt --plan site.plan -o text-link").status, 2);
+    assert_eq!((folder.read("good.path"), folder.read("good.txt")), (path, text));
 }
 
 /// A link stays a link, and the rights of a file stay.

@@ -287,11 +287,52 @@ fn show_asks_what_the_header_alone_decides() {
     folder.write("single.hex", format!("00001000{}", "00".repeat(20)));
     assert!(folder.run("show single.hex").out.starts_with("refused, number 6: "));
     folder.write("gap.hex", format!("00000082{}", "00".repeat(64)));
+    assert!(folder.run("show gap.hex").out.starts_with("refused, number 7: "));
+}
+
+/// Behind an empty segment, hops are shown with the info field that the step takes for them.
+#[test]
+fn a_header_with_a_gap_is_shown_as_the_step_reads_it() {
+    let folder = Folder::new();
+    let hops = |from: u8| {
+        (from..from + 4)
+            .map(|hop| format!("003f00{hop:02x}00{:02x}000000000000", hop + 10))
+            .collect::<String>()
+    };
+    // Lengths 0, 2, 2 and CurrINF 1; info field 0 with C clear, info field 1 with C set.
+    folder.write(
+        "gap.hex",
+        format!("40000082 00001111000003e8 01002222000007d0 {}", hops(10)),
+    );
     let ran = folder.run("show gap.hex");
-    assert!(ran.out.starts_with("refused, number 7: "), "{}", ran.out);
-    assert!(ran
-        .out
-        .contains("    gap          a segment before it is empty: the step looks for info field 1 here\n"));
+    assert_eq!(ran.status, 0);
+    for lines in [
+        "segment 1: info field 1 (bytes 12 to 19), hops 0 to 1\n    C            set: travelled as constructed\n",
+        "    hop 0        in 10, out 20; ends ",
+        "segment 2: no info field, hops 2 to 3\n    gap          a segment before it is empty: the step looks for info \
+         field 2, which is not there\n    hop 2        ConsIngress 12, ConsEgress 22; ExpTime 63; no alert\n",
+        "info field 0 (bytes 4 to 11): of no segment\n    C            clear: travelled against construction\n",
+    ] {
+        assert!(ran.out.contains(lines), "{lines}\n{}", ran.out);
+    }
+    let call = "step gap.hex --table 10:child:up,20:child:up --key 00000000000000000000000000000000 --interface 0 --ignore-macs";
+    let answer = parse(&folder.run(&format!("{call} --now 2500 --json")).out);
+    let Some(values) = answer.get("values") else { panic!() };
+    assert_eq!(values.number("egress_interface"), Some(20));
+    let note = "a segment stands behind an empty one: ";
+    assert!(folder.run("sign --show gap.hex").err.contains(note));
+    folder.write("text", folder.run("sign --show gap.hex").out);
+    assert!(folder.run("sign text -o again").err.contains(note));
+    // A field that is cut off has the same names as one that is there.
+    folder.write("cut.hex", "00002000 0000");
+    let cut = parse(&folder.run("show cut.hex --json").out);
+    let Some(Value::List(segments)) = cut.get("segments") else {
+        panic!()
+    };
+    assert_eq!(
+        (segments[0].number("place"), segments[0].number("timestamp")),
+        (Some(0), None)
+    );
 }
 
 #[test]

@@ -109,7 +109,18 @@ fn a_path_s_bytes_come_back_through_its_text() {
         assert_eq!(signed.status, i32::from(hops > 64), "{}", shown.out);
         assert_eq!(signed.err.contains("number 4:"), hops > 64, "{}", signed.err);
         assert_eq!(signed.err.contains("has no hop"), hops == 0, "{}", signed.err);
-        assert_eq!(signed.err.is_empty(), (1..=64).contains(&hops), "{}", signed.err);
+        let used = lengths
+            .iter()
+            .rposition(|&length| length != 0)
+            .map_or(0, |last| last as u64 + 1);
+        let has_gap = used != infos;
+        assert_eq!(signed.err.contains("behind an empty one"), has_gap, "{}", signed.err);
+        assert_eq!(
+            signed.err.is_empty(),
+            (1..=64).contains(&hops) && !has_gap,
+            "{}",
+            signed.err
+        );
         assert_eq!(to_hex(&folder.read("again")), to_hex(&path), "{}", shown.out);
         folder.run("sign text -o again.hex");
         assert_eq!(folder.run("sign --show again.hex").out, shown.out);

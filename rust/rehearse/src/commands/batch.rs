@@ -4,18 +4,19 @@ use super::journey::{between, check, Between, Checking};
 use super::names;
 use crate::answers::Answer;
 use crate::arguments::Arguments;
-use crate::files::{is_plain, shown, Files};
+use crate::files::{shown, Files};
 use crate::json::Json;
-use crate::mistake::{mistake, Checked, Mistake};
-use crate::output::Lines;
+use crate::mistake::{mistake, Checked};
+use crate::output::{printable, shortened, Lines};
 use crate::report::{counted, Report};
 use std::collections::BTreeMap;
 use std::ffi::OsStr;
 
-/// A line of the list: a path and a plan, or what is wrong with it.
+/// A line of the list.
 struct Entry<'a> {
     line: usize,
-    names: Checked<[&'a str; 2]>,
+    /// Its text without a comment, or none if it is no text.
+    said: Option<&'a str>,
 }
 
 #[derive(Default)]
@@ -36,39 +37,57 @@ pub fn run(arguments: &Arguments, files: &Files) -> Checked<Report> {
     let between = between(arguments)?;
     let name = arguments.value("--batch").unwrap_or_default();
     let (list, of) = (files.read(name)?, shown(name));
-    let entries = entries(&list, &of);
-    if entries.is_empty() {
+    let count = entries(&list).count();
+    if count == 0 {
         return mistake(format!("{of} names no journey: write a path and a plan on each line"));
     }
-    let mut lines = Lines::of(entries.len());
+    let mut lines = Lines::of(count);
     let mut summary = Summary::default();
     // Without a reader the journeys are checked all the same: the status is that of all of them.
-    for (at, entry) in entries.iter().enumerate() {
-        let line = one(files, entry, &between, arguments.flag("--json"), &mut summary);
+    for (at, entry) in entries(&list).enumerate() {
+        let names = entry.names(&of);
+        let line = one(
+            files,
+            (entry.line, names),
+            &between,
+            arguments.flag("--json"),
+            &mut summary,
+        );
         lines.print(&line, at + 1)?;
     }
     lines.finish()?;
-    let mut report = summary.report(entries.len());
+    let mut report = summary.report(count);
     report.notes = between.notes;
     Ok(report)
 }
 
-/// The list's journeys: a path and a plan on each line, between them white space, or a tab where a name has spaces.
-fn entries<'a>(list: &'a [u8], of: &str) -> Vec<Entry<'a>> {
+/// The list's lines that name a journey, or should.
+fn entries<'a>(list: &'a [u8]) -> impl Iterator<Item = Entry<'a>> {
     let list = list.strip_prefix("\u{feff}".as_bytes()).unwrap_or(list);
-    let mut entries = Vec::new();
-    for (at, line) in list.split(|&byte| byte == b'\n').enumerate() {
-        let names = match std::str::from_utf8(line).map(without_comment) {
-            Ok("") => continue,
-            Err(_) if line.trim_ascii_start().starts_with(b"#") => continue,
-            Ok(said) if is_plain(said) => two_names(said),
-            _ => mistake("there is a byte in this line that is no text: write the names in UTF-8"),
+    let lines = list.split(|&byte| byte == b'\n').enumerate();
+    lines.filter_map(|(at, line)| {
+        let said = std::str::from_utf8(line).map(without_comment);
+        let is_comment = said == Ok("") || said.is_err() && line.trim_ascii_start().starts_with(b"#");
+        (!is_comment).then_some(Entry {
+            line: at + 1,
+            said: said.ok(),
+        })
+    })
+}
+
+impl<'a> Entry<'a> {
+    /// A path and a plan, between them white space, or a tab where a name has spaces.
+    fn names(&self, of: &str) -> Checked<[&'a str; 2]> {
+        let is_control = |letter: char| letter.is_control() && letter != '\t';
+        let names = match self.said {
+            None => mistake("there is a byte in this line that is no text: write the names in UTF-8"),
+            Some(said) if said.contains(is_control) => {
+                mistake("there is a control character in this line: write a path and a plan")
+            }
+            Some(said) => two_names(said),
         };
-        let line = at + 1;
-        let names = names.map_err(|why| Mistake(format!("{of}, line {line}: {}", why.0)));
-        entries.push(Entry { line, names });
+        names.or_else(|why| mistake(format!("{of}, line {}: {}", self.line, why.0)))
     }
-    entries
 }
 
 /// A line up to a # that starts a word.
@@ -92,9 +111,15 @@ fn two_names(said: &str) -> Checked<[&str; 2]> {
         .or_else(|_| mistake("write a path and a plan, with a space between them, or a tab if a name has spaces"))
 }
 
-/// Checks one journey and gives its line.
-fn one(files: &Files, entry: &Entry<'_>, between: &Between, as_json: bool, summary: &mut Summary) -> String {
-    let checking = match &entry.names {
+/// Checks the journey of one line, and gives what is printed of it.
+fn one(
+    files: &Files,
+    (line, names): (usize, Checked<[&str; 2]>),
+    between: &Between,
+    as_json: bool,
+    summary: &mut Summary,
+) -> String {
+    let checking = match &names {
         Ok([path, plan]) => check(files, OsStr::new(path), OsStr::new(plan), between),
         Err(why) => mistake(&why.0),
     };
@@ -102,23 +127,24 @@ fn one(files: &Files, entry: &Entry<'_>, between: &Between, as_json: bool, summa
         Ok(Checking { answer, report, why }) => (summary.count(&answer), why, report.json),
         Err(mistake) => {
             summary.not_read += 1;
-            (
-                "not read".into(),
-                Some(mistake.0.clone()),
-                mistake.json(Some("journey")),
-            )
+            let json = mistake.json(Some("journey"));
+            ("not read".into(), Some(mistake.0), json)
         }
     };
-    let names = entry.names.as_ref().ok();
+    let names = names.ok();
     if as_json {
         let name = |at: usize| names.map_or(Json::Null, |names| Json::text(names[at]));
-        json.push(("line", Json::number(entry.line)));
+        json.push(("line", Json::number(line)));
         json.push(("path_file", name(0)));
         json.push(("plan_file", name(1)));
         return format!("{}\n", names::object(Some("journey"), json));
     }
-    let said: Vec<String> = names.map(|names| names.join(" ")).into_iter().chain(why).collect();
-    format!("{label:<11} {}\n", said.join(": "))
+    let said: Vec<String> = names
+        .map(|names| shortened(&names.join(" ")))
+        .into_iter()
+        .chain(why)
+        .collect();
+    format!("{label:<11} {}\n", printable(&said.join(": ")))
 }
 
 impl Summary {

@@ -18,6 +18,7 @@ use crate::hex;
 use crate::json::Json;
 use crate::mistake::{Checked, Mistake};
 use crate::nearest::nearest;
+use crate::output::printable;
 use crate::report::Report;
 use crate::seen;
 use std::ffi::{OsStr, OsString};
@@ -146,7 +147,10 @@ fn finished(command: &str, report: Report, as_json: bool) -> Said {
             status,
         };
     }
-    let err = notes.iter().map(|note| format!("rehearse: {note}\n")).collect();
+    let err = notes
+        .iter()
+        .map(|note| format!("rehearse: {}\n", printable(note)))
+        .collect();
     Said { out: text, err, status }
 }
 
@@ -155,7 +159,7 @@ fn wrong(command: Option<&'static str>, mistake: &Mistake, as_json: bool) -> Sai
     let object = || format!("{}\n", names::object(command, mistake.json(command)));
     Said {
         out: if as_json { object() } else { String::new() },
-        err: format!("rehearse: {}\n", mistake.0),
+        err: format!("rehearse: {}\n", printable(&mistake.0)),
         status: 2,
     }
 }

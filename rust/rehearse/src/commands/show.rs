@@ -36,9 +36,13 @@ pub fn run(arguments: &Arguments, files: &Files) -> Checked<Report> {
         Err(error) => Report::of("show", &answers::of_header_error(error)),
     };
     meta(header, &mut report);
-    let mut segments = Vec::new();
-    for segment in header.segments() {
-        segments.push(show_segment(header, &segment, &mut report));
+    let used = header.segments();
+    let mut segments: Vec<Json> = used
+        .iter()
+        .map(|segment| show_segment(header, segment, &mut report))
+        .collect();
+    for index in (0..header.infos()).filter(|index| used.iter().all(|segment| segment.place != *index)) {
+        segments.push(show_unused(header, index, &mut report));
     }
     report.member("segments", Json::List(segments));
     report.notes = notes;
@@ -51,6 +55,7 @@ fn too_short(path: &[u8], error: HeaderError) -> Report {
     let bytes = if path.is_empty() { "none".into() } else { to_hex(path) };
     report.line("bytes read", bytes);
     report.member("bytes_read", Json::number(path.len()));
+    report.member("bytes_behind", Json::number(0));
     report
 }
 
@@ -120,53 +125,31 @@ fn meta(header: Header<'_>, report: &mut Report) {
     report.member("expiration", expires.map_or(Json::Null, Json::number));
 }
 
+/// The info field that the step takes for a segment, and its hops.
 fn show_segment(header: Header<'_>, segment: &Segment, report: &mut Report) -> Json {
     let &Segment {
-        place,
-        info: index,
-        first_hop,
-        hops,
+        place, first_hop, hops, ..
     } = segment;
-    let at = header.info_at(index);
-    report.text += &format!(
-        "segment {place}: info field {index} (bytes {at} to {}), {}\n",
-        at + 7,
-        if hops == 1 {
-            format!("hop {first_hop}")
-        } else {
-            format!("hops {first_hop} to {}", first_hop + hops - 1)
-        }
-    );
-    let Some(info) = header.info(index) else {
-        report.text += "    not there: the bytes end before it\n";
-        return Json::Null;
+    let is_there = place < header.infos();
+    let hop_words = match hops {
+        1 => format!("hop {first_hop}"),
+        _ => format!("hops {first_hop} to {}", first_hop + hops - 1),
     };
-    let direction = if info.cons_dir() {
-        "set: travelled as constructed"
-    } else {
-        "clear: travelled against construction"
+    let info_words = match is_there {
+        true => info_words(header, place),
+        false => "no info field".into(),
     };
-    if place != index {
+    report.text += &format!("segment {place}: {info_words}, {hop_words}\n");
+    if !is_there {
         report.line(
             "gap",
-            format!("a segment before it is empty: the step looks for info field {place} here"),
+            format!("a segment before it is empty: the step looks for info field {place}, which is not there"),
         );
     }
-    report.line("C", direction);
-    report.line(
-        "P",
-        if info.peering() {
-            "set: a peering segment"
-        } else {
-            "clear: no peering segment"
-        },
-    );
-    report.line("SegID", format!("{:04x}", info.seg_id()));
-    report.line("timestamp", dates::both(info.timestamp()));
-    report.line(
-        "reserved",
-        format!("flag bits {:02x}, byte {:02x}", info.reserved_flags(), info.reserved()),
-    );
+    let info = header.info_in_step(place);
+    if is_there {
+        show_info(info.as_ref(), report);
+    }
     let mut shown = Vec::new();
     for index in first_hop..first_hop + hops {
         let Some(hop) = header.hop(index) else {
@@ -176,23 +159,67 @@ fn show_segment(header: Header<'_>, segment: &Segment, report: &mut Report) -> J
             );
             break;
         };
-        shown.push(show_hop(header, index, &info, &hop, report));
+        shown.push(show_hop(header, index, info.as_ref(), &hop, report));
     }
+    segment_json(Some(place), is_there.then_some(place), info.as_ref(), shown)
+}
+
+/// An info field that the step takes for no segment.
+fn show_unused(header: Header<'_>, index: usize, report: &mut Report) -> Json {
+    report.text += &format!("{}: of no segment\n", info_words(header, index));
+    let info = header.info(index);
+    show_info(info.as_ref(), report);
+    segment_json(None, Some(index), info.as_ref(), Vec::new())
+}
+
+fn info_words(header: Header<'_>, index: usize) -> String {
+    let at = header.info_at(index);
+    format!("info field {index} (bytes {at} to {})", at + 7)
+}
+
+fn show_info(info: Option<&Info>, report: &mut Report) {
+    let Some(info) = info else {
+        report.text += "    not there: the bytes end before it\n";
+        return;
+    };
+    let direction = match info.cons_dir() {
+        true => "set: travelled as constructed",
+        false => "clear: travelled against construction",
+    };
+    let peering = match info.peering() {
+        true => "set: a peering segment",
+        false => "clear: no peering segment",
+    };
+    report.line("C", direction);
+    report.line("P", peering);
+    report.line("SegID", format!("{:04x}", info.seg_id()));
+    report.line("timestamp", dates::both(info.timestamp()));
+    report.line(
+        "reserved",
+        format!("flag bits {:02x}, byte {:02x}", info.reserved_flags(), info.reserved()),
+    );
+}
+
+fn segment_json(place: Option<usize>, index: Option<usize>, info: Option<&Info>, hops: Vec<Json>) -> Json {
+    let of = |value: fn(&Info) -> Json| info.map_or(Json::Null, value);
     Json::Object(vec![
-        ("place", Json::number(place)),
-        ("info_field", Json::number(index)),
-        ("cons_dir", Json::Flag(info.cons_dir())),
-        ("peering", Json::Flag(info.peering())),
-        ("seg_id", Json::text(format!("{:04x}", info.seg_id()))),
-        ("timestamp", Json::number(info.timestamp())),
-        ("timestamp_date", Json::text(dates::date(info.timestamp()))),
-        ("reserved_flags", Json::text(format!("{:02x}", info.reserved_flags()))),
-        ("reserved", Json::text(format!("{:02x}", info.reserved()))),
-        ("hops", Json::List(shown)),
+        ("place", place.map_or(Json::Null, Json::number)),
+        ("info_field", index.map_or(Json::Null, Json::number)),
+        ("cons_dir", of(|info| Json::Flag(info.cons_dir()))),
+        ("peering", of(|info| Json::Flag(info.peering()))),
+        ("seg_id", of(|info| Json::text(format!("{:04x}", info.seg_id())))),
+        ("timestamp", of(|info| Json::number(info.timestamp()))),
+        ("timestamp_date", of(|info| Json::text(dates::date(info.timestamp())))),
+        (
+            "reserved_flags",
+            of(|info| Json::text(format!("{:02x}", info.reserved_flags()))),
+        ),
+        ("reserved", of(|info| Json::text(format!("{:02x}", info.reserved())))),
+        ("hops", Json::List(hops)),
     ])
 }
 
-fn show_hop(header: Header<'_>, index: usize, info: &Info, hop: &Hop, report: &mut Report) -> Json {
+fn show_hop(header: Header<'_>, index: usize, info: Option<&Info>, hop: &Hop, report: &mut Report) -> Json {
     report.line(&format!("hop {index}"), hop_words::words(info, hop));
     let (mac, flags, at) = (to_hex(&hop.mac()), hop.reserved_flags(), header.hop_at(index));
     report.line(

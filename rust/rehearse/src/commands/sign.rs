@@ -109,12 +109,21 @@ fn told(signed: &Signed) -> Report {
             .notes
             .push(format!("the library turns this header down: {}", answer.headline()));
     }
+    report.notes.extend(gap(header));
     if hops == 0 {
         report
             .notes
             .push("the text has no hop: the header is the 4 bytes of a meta word".into());
     }
     report
+}
+
+/// A note on info fields that are written in another order than they are looked for.
+fn gap(header: Header<'_>) -> Option<String> {
+    let note =
+        "a segment stands behind an empty one: the step looks for its info field by its place, and takes another than \
+                the text's, or none";
+    header.has_gap().then(|| note.into())
 }
 
 /// What is odd about the plan that was given.
@@ -185,6 +194,7 @@ fn show(arguments: &Arguments, files: &Files, name: &OsStr) -> Checked<Report> {
     report.member("hops", Json::number(Header(&path).hops()));
     report.member("infos", Json::number(Header(&path).infos()));
     report.member("text", Json::text(text));
+    report.notes.extend(gap(Header(&path)));
     report.notes.extend(not_a_path(&path, name));
     Ok(report)
 }

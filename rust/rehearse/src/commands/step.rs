@@ -183,8 +183,9 @@ fn read_key(files: &Files, given: &str) -> Checked<ForwardingKey> {
     };
     let bytes = files.read(OsStr::new(name))?;
     // Sixteen bytes that are hex digits all of them are half a key.
-    let bytes = match hex::is_hex(&bytes) {
-        true => hex::from_hex(&bytes, name)?,
+    let text = bytes.strip_prefix("\u{feff}".as_bytes()).unwrap_or(&bytes);
+    let bytes = match hex::is_hex(text) {
+        true => hex::from_hex(text, name)?,
         false => bytes,
     };
     bytes.try_into().or_else(|bytes: Vec<u8>| {
