@@ -59,11 +59,11 @@ const STEPS: [(&str, &str); 8] = [
     ),
     (
         "One station alone: hall A gets the good path from its own hosts (interface 0) and sends it on.",
-        "step good.path --table 1:parent:up --key 30a1f2c4b5d697e8091a2b3c4d5e6f70 --interface 0 --now 2026-11-16T06:05:00Z",
+        "step good.path --plan site.plan --station 0 --now 2026-11-16T06:05:00Z",
     ),
     (
         "The same at one in the afternoon, an hour after the hop has ended.",
-        "step good.path --table 1:parent:up --key 30a1f2c4b5d697e8091a2b3c4d5e6f70 --interface 0 --now 2026-11-16T13:00:00Z",
+        "step good.path --plan site.plan --station 0 --now 2026-11-16T13:00:00Z",
     ),
 ];
 
