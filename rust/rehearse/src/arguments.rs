@@ -154,11 +154,6 @@ impl Arguments {
         }
     }
 
-    /// An interface's number.
-    pub fn interface(&self, name: &str) -> Checked<u16> {
-        self.number(name, "interface number")
-    }
-
     /// A whole number from 0 to 65535; `what` is its name in a mistake.
     pub fn number(&self, name: &str, what: &str) -> Checked<u16> {
         let text = self.needed(name)?;

@@ -131,6 +131,16 @@ fn a_step_takes_its_station_from_a_plan() {
         "egress good.path --plan site.plan --station 0 --interface 1 {AT}"
     ));
     assert_eq!(ran.status, 0);
+    // A plan that fits no path is named: what is read of it may not be what was meant.
+    folder.write("bad.txt", folder.text("plan.txt").replace("arrival 31", "arrival 0"));
+    let ran = folder.run(&format!("step good.path --plan bad.txt --station 0 {AT}"));
+    assert_eq!(ran.status, 0);
+    assert!(
+        ran.err
+            .contains("turns this plan down for every path: station 3, not the first"),
+        "{}",
+        ran.err
+    );
     for (call, why) in [
         ("step good.path --plan site.plan", "--station is missing"),
         ("step good.path --station 1", "--station goes with --plan"),

@@ -9,6 +9,7 @@ mod plan;
 mod reverse;
 mod show;
 mod sign;
+mod station;
 mod step;
 
 use crate::arguments::{Arguments, Form};

@@ -1,22 +1,18 @@
 //! `rehearse step`, `rehearse ingress` and `rehearse egress`: what one station does with a packet.
 
+use super::station::Named;
 use super::{left_file, read_path, reading, spelling, write_left, PATH};
 use crate::answers::{self, Answer};
 use crate::arguments::{Arguments, Form};
 use crate::dates;
-use crate::files::{shown, Files};
-use crate::hex;
-use crate::interfaces;
-use crate::itinerary;
+use crate::files::Files;
 use crate::json::Json;
-use crate::mistake::{mistake, Checked};
-use crate::plan::{self, Station};
-use crate::report::{counted, Report};
+use crate::mistake::Checked;
+use crate::report::Report;
 use crate::sentences::Call;
 use standard_path::{
     handle_standard_path, standard_path_egress, standard_path_ingress, ForwardingKey, Interfaces, ScionNetworkTime,
 };
-use std::ffi::OsStr;
 
 const fn form(command: &'static str) -> Form {
     Form {
@@ -87,17 +83,17 @@ fn call(
     library: impl Fn(&mut [u8], &At<'_>) -> Answer,
 ) -> Checked<Report> {
     arguments.file(0, PATH)?;
-    let source = source(arguments)?;
-    // The packet leaves egress by an interface that no plan has a word for.
-    let interface = match (&source, arguments.value("--interface")) {
-        (Source::Plan { .. }, None) if call != Call::Egress => None,
-        _ => Some(arguments.interface("--interface")?),
+    let named = Named::in_call(arguments)?;
+    // By which interface the packet leaves stands in no plan.
+    let interface = match (&named, arguments.value("--interface")) {
+        (Named::InPlan { .. }, None) if call != Call::Egress => None,
+        _ => Some(arguments.number("--interface", "interface number")?),
     };
     let mut notes = Vec::new();
     let now = reading(arguments, "--now", &mut notes)?;
     let file = left_file(arguments)?;
 
-    let station = read_station(arguments, files, source)?;
+    let station = named.read(files, spelling(arguments)?, &mut notes)?;
     let before = read_path(arguments, files, &mut notes)?;
     let (ids, states): (Vec<u16>, Vec<u8>) = station.interfaces.into_iter().unzip();
     let at = At {
@@ -120,78 +116,4 @@ fn call(
     report.path_left(&before, &path);
     write_left(file, files, &path, &mut report)?;
     Ok(report)
-}
-
-// ---- the station
-
-/// Where the station's table and key stand.
-enum Source<'a> {
-    Words { table: &'a OsStr, key: &'a str },
-    Plan { name: &'a OsStr, station: usize },
-}
-
-fn source(arguments: &Arguments) -> Checked<Source<'_>> {
-    let Some(name) = arguments.value("--plan") else {
-        if arguments.value("--station").is_some() {
-            return arguments.wrong("--station goes with --plan, which is missing");
-        }
-        let (table, key) = (arguments.given("--table")?, arguments.needed("--key")?);
-        return Ok(Source::Words { table, key });
-    };
-    if let Some(option) = ["--table", "--key"]
-        .iter()
-        .find(|option| arguments.value(option).is_some())
-    {
-        return arguments.wrong(format!(
-            "{option} does not go with --plan, which has the station's table and key"
-        ));
-    }
-    let station = usize::from(arguments.number("--station", "place in a plan")?);
-    Ok(Source::Plan { name, station })
-}
-
-fn read_station(arguments: &Arguments, files: &Files, source: Source<'_>) -> Checked<Station> {
-    let (name, place) = match source {
-        Source::Words { table, key } => {
-            return Ok(Station {
-                arrival: 0,
-                interfaces: interfaces::table(files, table)?,
-                key: read_key(files, key)?,
-            })
-        }
-        Source::Plan { name, station } => (name, station),
-    };
-    let mut stations = itinerary::read(&plan::read(files, name, spelling(arguments)?)?).stations;
-    match place < stations.len() {
-        true => Ok(stations.swap_remove(place)),
-        false => mistake(format!(
-            "--station: {} has {} and no station {place}: they are counted from 0",
-            shown(name),
-            counted(stations.len(), "station")
-        )),
-    }
-}
-
-fn read_key(files: &Files, given: &str) -> Checked<ForwardingKey> {
-    let Some(name) = given.strip_prefix('@') else {
-        let digits: String = given.split_whitespace().collect();
-        return hex::exactly(&digits, "--key").or_else(|_| {
-            mistake(format!(
-                "--key: `{given}` is no key: write 32 hex digits, or @ and the name of a file with the key"
-            ))
-        });
-    };
-    let bytes = files.read(OsStr::new(name))?;
-    // Sixteen bytes that are hex digits all of them are half a key.
-    let text = bytes.strip_prefix("\u{feff}".as_bytes()).unwrap_or(&bytes);
-    let bytes = match hex::is_hex(text) {
-        true => hex::from_hex(text, name)?,
-        false => bytes,
-    };
-    bytes.try_into().or_else(|bytes: Vec<u8>| {
-        mistake(format!(
-            "{name} holds {} bytes and no key: a key has 16 bytes, or 32 hex digits",
-            bytes.len()
-        ))
-    })
 }
