@@ -55,24 +55,7 @@ pub struct Read {
 
 /// Reads as far as the records go: every chain ends, since it only goes up.
 pub fn read(bytes: &[u8]) -> Read {
-    let mut remarks = Vec::new();
-    let over = bytes.len() % RECORD;
-    if over != 0 {
-        remarks.push(format!(
-            "{} bytes are no whole number of records of 32 bytes",
-            bytes.len()
-        ));
-    }
-    match bytes.len() / RECORD {
-        0 => remarks.push("there is no record".into()),
-        records if records > MOST_RECORDS => {
-            remarks.push(format!("there are {records} records, and 2,048 is the most"))
-        }
-        _ => {}
-    }
-    if let Some(at) = (2..RECORD.min(bytes.len())).find(|&at| bytes[at] != 0) {
-        remarks.push(format!("byte {at} of record 0 is not zero"));
-    }
+    let mut remarks = odd_size(bytes);
     let mut left = MOST_INTERFACES;
     let chain_of_stations = chain(bytes, number(bytes, 0), "station", MOST_RECORDS, &mut remarks);
     let mut stations = Vec::new();
@@ -87,19 +70,43 @@ pub fn read(bytes: &[u8]) -> Read {
                 remarks.push(format!("record {record} is both a station and an interface"));
             }
         }
-        let station = bytes[RECORD * record..][..RECORD].first_chunk::<24>();
-        let key = station.and_then(|station| station[8..].try_into().ok());
-        stations.push(Station {
-            arrival: number(bytes, RECORD * record + 2) as u16,
-            key: key.unwrap_or_default(),
-            interfaces: interfaces.into_iter().map(|record| interface(bytes, record)).collect(),
-        });
+        stations.push(station(bytes, record, &interfaces));
     }
     // Tables may share records, which are looked at once for each.
     let mut known = HashSet::new();
     remarks.retain(|remark| known.insert(remark.clone()));
     let remarks = seen::first(remarks);
     Read { stations, remarks }
+}
+
+/// What is odd about the bytes as a whole and about record 0.
+fn odd_size(bytes: &[u8]) -> Vec<String> {
+    let (mut remarks, size) = (Vec::new(), bytes.len());
+    if size % RECORD != 0 {
+        remarks.push(format!("{size} bytes are no whole number of records of 32 bytes"));
+    }
+    match size / RECORD {
+        0 => remarks.push("there is no record".into()),
+        records if records > MOST_RECORDS => {
+            remarks.push(format!("there are {records} records, and 2,048 is the most"))
+        }
+        _ => {}
+    }
+    if let Some(at) = (2..RECORD.min(size)).find(|&at| bytes[at] != 0) {
+        remarks.push(format!("byte {at} of record 0 is not zero"));
+    }
+    remarks
+}
+
+fn station(bytes: &[u8], record: usize, interfaces: &[usize]) -> Station {
+    let at = RECORD * record;
+    let mut key = [0; 16];
+    key.copy_from_slice(&bytes[at + 8..at + 24]);
+    Station {
+        arrival: number(bytes, at + 2) as u16,
+        key,
+        interfaces: interfaces.iter().map(|&record| interface(bytes, record)).collect(),
+    }
 }
 
 /// A byte of a record that should be zero and is not.

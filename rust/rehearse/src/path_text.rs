@@ -41,13 +41,41 @@ pub enum Start {
 
 // ---- blocks
 
-/// The words of a `path` or `segment` block that are still being read.
+/// A block of lines that is being read.
+enum Block {
+    Path(PathDraft),
+    Segment(SegmentDraft),
+}
+
 #[derive(Default)]
-struct Draft {
+struct PathDraft {
+    curr_inf: Option<u8>,
+    curr_hf: Option<u8>,
+    reserved: Option<u8>,
+}
+
+impl PathDraft {
+    fn read(&mut self, line: &Line<'_>) -> Checked<()> {
+        let word = line.words[0];
+        let (place, highest) = match word {
+            "curr_inf" => (&mut self.curr_inf, 3),
+            "curr_hf" => (&mut self.curr_hf, 63),
+            "reserved" => (&mut self.reserved, 63),
+            _ => {
+                return line.wrong(format!(
+                "`{word}` is not known here: below `path` stand curr_inf, curr_hf and reserved, and a segment starts \
+                     with the word `segment`"
+            ))
+            }
+        };
+        let number = line.number_up_to(line.only(&format!("{word} 0"))?, highest)?;
+        once(place, number as u8, line, &format!("`{word}`"))
+    }
+}
+
+#[derive(Default)]
+struct SegmentDraft {
     line: usize,
-    is_segment: bool,
-    curr_inf: Option<u16>,
-    curr_hf: Option<u16>,
     reserved: Option<u8>,
     reserved_flags: Option<u8>,
     cons_dir: Option<bool>,
@@ -58,76 +86,46 @@ struct Draft {
     hops: Vec<HopText>,
 }
 
-impl Draft {
+impl SegmentDraft {
     fn read(&mut self, line: &Line<'_>) -> Checked<()> {
-        match (line.words[0], self.is_segment) {
-            ("curr_inf", false) => once(
-                &mut self.curr_inf,
-                line.number_up_to(line.only("curr_inf 0")?, 3)?,
-                line,
-                "`curr_inf`",
-            ),
-            ("curr_hf", false) => once(
-                &mut self.curr_hf,
-                line.number_up_to(line.only("curr_hf 0")?, 63)?,
-                line,
-                "`curr_hf`",
-            ),
-            ("reserved", false) => {
-                let bits = line.number_up_to(line.only("reserved 0")?, 63)?;
-                once(&mut self.reserved, bits as u8, line, "`reserved`")
-            }
-            ("reserved", true) => {
+        match line.words[0] {
+            "cons_dir" => once(&mut self.cons_dir, yes_or_no(line)?, line, "`cons_dir`"),
+            "peering" => once(&mut self.peering, yes_or_no(line)?, line, "`peering`"),
+            "reserved" => {
                 let [byte] = line.hex(line.only("reserved 00")?)?;
                 once(&mut self.reserved, byte, line, "`reserved`")
             }
-            ("reserved_flags", true) => {
+            "reserved_flags" => {
                 let flags = reserved_flags(line, line.only("reserved_flags 04")?)?;
                 once(&mut self.reserved_flags, flags, line, "`reserved_flags`")
             }
-            ("cons_dir", true) => once(&mut self.cons_dir, yes_or_no(line)?, line, "`cons_dir`"),
-            ("peering", true) => once(&mut self.peering, yes_or_no(line)?, line, "`peering`"),
-            (word @ ("seg_id" | "beta"), true) => {
-                let number = u16::from_be_bytes(line.hex(line.only(&format!("{word} 1234"))?)?);
-                let start = if word == "beta" {
-                    Start::Beta(number)
-                } else {
-                    Start::SegId(number)
-                };
-                once(&mut self.start, start, line, "`seg_id` or `beta`")
-            }
-            ("timestamp", true) => {
-                let text = line.words[1..].join(" ");
-                if text.is_empty() {
-                    return line.wrong("write a time behind `timestamp`, as `timestamp 2026-11-15T06:00:00Z`");
-                }
-                self.note = dates::note(&text, &line.place());
-                once(
-                    &mut self.timestamp,
-                    dates::time(&text, &line.place())?,
-                    line,
-                    "`timestamp`",
-                )
-            }
-            ("hop", true) if self.hops.len() == 63 => {
+            "seg_id" => once(&mut self.start, Start::SegId(two_bytes(line)?), line, SEG_ID),
+            "beta" => once(&mut self.start, Start::Beta(two_bytes(line)?), line, SEG_ID),
+            "timestamp" => self.timestamp(line),
+            "hop" if self.hops.len() == 63 => {
                 line.wrong("this is hop 64 of the segment, and its length can't say more than 63")
             }
-            ("hop", true) => {
+            "hop" => {
                 self.hops.push(hop(line)?);
                 Ok(())
             }
-            (word, false) => line.wrong(format!(
-                "`{word}` is not known here: below `path` stand curr_inf, curr_hf and reserved, and a segment starts \
-                 with the word `segment`"
-            )),
-            (word, true) => line.wrong(format!(
+            word => line.wrong(format!(
                 "`{word}` is not known here: below `segment` stand cons_dir, peering, seg_id or beta, timestamp, \
                  reserved_flags, reserved and hop"
             )),
         }
     }
 
-    fn segment(self, of: &str) -> Checked<SegmentText> {
+    fn timestamp(&mut self, line: &Line<'_>) -> Checked<()> {
+        let (text, place) = (line.words[1..].join(" "), line.place());
+        if text.is_empty() {
+            return line.wrong("write a time behind `timestamp`, as `timestamp 2026-11-15T06:00:00Z`");
+        }
+        self.note = dates::note(&text, &place);
+        once(&mut self.timestamp, dates::time(&text, &place)?, line, "`timestamp`")
+    }
+
+    fn finished(self, of: &str) -> Checked<SegmentText> {
         let lacks = |what: &str| mistake(format!("{of}, line {}: this segment has no {what}", self.line));
         if self.hops.is_empty() {
             return lacks("hop: add lines as `hop in 0 out 1 lasts 6h`, or write `segment none` for an empty one");
@@ -151,6 +149,8 @@ impl Draft {
     }
 }
 
+const SEG_ID: &str = "`seg_id` or `beta`";
+
 // ---- the whole text
 
 /// The path that a text describes. Whether it is a good one is asked by the library, not here.
@@ -162,8 +162,8 @@ pub fn from_text(text: &str, of: &str) -> Checked<PathText> {
     reader.end_block(of)?;
     let path = reader.path.unwrap_or_default();
     Ok(PathText {
-        curr_inf: path.curr_inf.unwrap_or(0) as u8,
-        curr_hf: path.curr_hf.unwrap_or(0) as u8,
+        curr_inf: path.curr_inf.unwrap_or(0),
+        curr_hf: path.curr_hf.unwrap_or(0),
         reserved: path.reserved.unwrap_or(0),
         segments: reader.segments,
         behind: reader.behind,
@@ -172,11 +172,10 @@ pub fn from_text(text: &str, of: &str) -> Checked<PathText> {
 
 #[derive(Default)]
 struct Reader {
-    path: Option<Draft>,
+    path: Option<PathDraft>,
     segments: Vec<Option<SegmentText>>,
     behind: Vec<u8>,
-    /// The block that is being read.
-    block: Option<Draft>,
+    block: Option<Block>,
 }
 
 impl Reader {
@@ -196,12 +195,15 @@ impl Reader {
                 self.segments.push(None);
                 Ok(())
             }
-            [word @ ("path" | "segment")] => {
-                self.block = Some(Draft {
+            ["path"] => {
+                self.block = Some(Block::Path(PathDraft::default()));
+                Ok(())
+            }
+            ["segment"] => {
+                self.block = Some(Block::Segment(SegmentDraft {
                     line: line.number,
-                    is_segment: word == "segment",
-                    ..Draft::default()
-                });
+                    ..SegmentDraft::default()
+                }));
                 Ok(())
             }
             [word @ ("path" | "segment"), ..] => line.wrong(format!("write `{word}` alone; a name goes behind a #")),
@@ -213,7 +215,8 @@ impl Reader {
                 }
             }
             _ => match &mut self.block {
-                Some(draft) => draft.read(line),
+                Some(Block::Path(path)) => path.read(line),
+                Some(Block::Segment(segment)) => segment.read(line),
                 None => line.wrong(format!(
                     "write `path` or `segment` on a line of its own before `{}`",
                     line.words[0]
@@ -225,8 +228,8 @@ impl Reader {
     fn end_block(&mut self, of: &str) -> Checked<()> {
         match self.block.take() {
             None => {}
-            Some(draft) if draft.is_segment => self.segments.push(Some(draft.segment(of)?)),
-            Some(draft) => self.path = Some(draft),
+            Some(Block::Path(path)) => self.path = Some(path),
+            Some(Block::Segment(segment)) => self.segments.push(Some(segment.finished(of)?)),
         }
         Ok(())
     }
@@ -240,4 +243,10 @@ fn yes_or_no(line: &Line<'_>) -> Checked<bool> {
         [_, "no"] => Ok(false),
         _ => line.wrong(format!("write `{0} yes` or `{0} no`", line.words[0])),
     }
+}
+
+/// A number of four hex digits.
+fn two_bytes(line: &Line<'_>) -> Checked<u16> {
+    let word = line.only(&format!("{} 1234", line.words[0]))?;
+    Ok(u16::from_be_bytes(line.hex(word)?))
 }

@@ -148,17 +148,8 @@ fn write(name: &OsStr) -> Checked<Report> {
     if name.is_empty() || name == "-" {
         return mistake("--write takes a folder: name one, as `rehearse demo --write site`");
     }
-    let folder = Path::new(name);
-    let failed = |name: &Path, error: io::Error| {
-        mistake(format!(
-            "{} can't be written ({error}): name a folder that you may write to",
-            name.display()
-        ))
-    };
-    if let Err(error) = fs::create_dir_all(folder) {
-        return failed(folder, error);
-    }
-    let files = all_files()?;
+    let (folder, files) = (Path::new(name), all_files()?);
+    fs::create_dir_all(folder).or_else(|error| cannot_write(folder, &error))?;
     // Nothing is written where something of another's stands in the way.
     for (name, content) in &files {
         let name = folder.join(name);
@@ -175,13 +166,18 @@ fn write(name: &OsStr) -> Checked<Report> {
     }
     for (name, content) in &files {
         let name = folder.join(name);
-        if let Err(error) = write_whole(&name, content) {
-            return failed(&name, error);
-        }
+        write_whole(&name, content).or_else(|error| cannot_write(&name, &error))?;
     }
     let names: Vec<&str> = files.iter().map(|&(name, _)| name).collect();
     let text = format!("{} written to {}\n", names.join(", "), folder.display());
     let mut report = Report::done("demo", "written", text);
     report.member("files", Json::List(names.into_iter().map(Json::text).collect()));
     Ok(report)
+}
+
+fn cannot_write(name: &Path, error: &io::Error) -> Checked<()> {
+    mistake(format!(
+        "{} can't be written ({error}): name a folder that you may write to",
+        name.display()
+    ))
 }

@@ -2,7 +2,7 @@
 
 use super::plan::turned_down;
 use super::{made_file, no_spelling, not_a_path, path_lines, spelling, write_made};
-use crate::answers;
+use crate::answers::{self, Answer};
 use crate::arguments::{Arguments, Form};
 use crate::dates;
 use crate::files::{shown, Files};
@@ -83,39 +83,36 @@ fn told(signed: &Signed) -> Report {
         None => Report::done("sign", "written", String::new()),
         Some(answer) => Report::of("sign", answer),
     };
-    let (hops, infos) = (header.hops(), header.infos());
-    let kept = hops - signed.worked_out - signed.unsigned.len();
-    report.text = format!(
-        "a path of {} in {}, {} worked out{}\n",
-        counted(hops, "hop"),
-        counted(infos, "segment"),
-        counted(signed.worked_out, "MAC"),
-        if kept == 0 {
-            String::new()
-        } else {
-            format!(", {kept} as in the text")
-        }
-    );
+    report.text = made(header, signed);
     if let Ok(time @ 1..) = ends {
         report.line("expires", dates::both(time));
     }
-    report.member("hops", Json::number(hops));
-    report.member("infos", Json::number(infos));
+    report.member("hops", Json::number(header.hops()));
+    report.member("infos", Json::number(header.infos()));
     report.member("macs_worked_out", Json::number(signed.worked_out));
     report.member("expiration", ends.map_or(Json::Null, Json::number));
     report.member("path", Json::text(hex::to_hex(&signed.bytes)));
-    if let Some(answer) = refused {
-        report
-            .notes
-            .push(format!("the library turns this header down: {}", answer.headline()));
-    }
+    let turned_down = |answer: Answer| format!("the library turns this header down: {}", answer.headline());
+    report.notes.extend(refused.map(turned_down));
     report.notes.extend(gap(header));
-    if hops == 0 {
-        report
-            .notes
-            .push("the text has no hop: the header is the 4 bytes of a meta word".into());
+    if header.hops() == 0 {
+        let note = "the text has no hop: the header is the 4 bytes of a meta word";
+        report.notes.push(note.into());
     }
     report
+}
+
+fn made(header: Header<'_>, signed: &Signed) -> String {
+    let (hops, segments) = (header.hops(), counted(header.infos(), "segment"));
+    let macs = counted(signed.worked_out, "MAC");
+    let kept = match hops - signed.worked_out - signed.unsigned.len() {
+        0 => String::new(),
+        kept => format!(", {kept} as in the text"),
+    };
+    format!(
+        "a path of {} in {segments}, {macs} worked out{kept}\n",
+        counted(hops, "hop")
+    )
 }
 
 /// A note on info fields that are written in another order than they are looked for.
