@@ -5,8 +5,9 @@ use crate::hop_words;
 use crate::json::Json;
 use crate::sentences::{self, Call, Question};
 use standard_path::{
-    AdvanceError, AsRoutingAction, HeaderError, IngressNextAction, JourneyError, LocalAsRoutingAction,
-    PathReverseError, Refusal, ScmpError, StandardRoutingError, Verdict,
+    expiration, standard_path_ingress, AdvanceError, AsRoutingAction, HeaderError, IngressNextAction, Interfaces,
+    JourneyError, LocalAsRoutingAction, PathReverseError, Refusal, ScionNetworkTime, ScmpError, StandardRoutingError,
+    Verdict,
 };
 
 /// An answer of the library.
@@ -287,6 +288,22 @@ pub fn of_expiration(answer: Result<u32, HeaderError>) -> Answer {
 
 pub fn of_header_error(error: HeaderError) -> Answer {
     Answer::refused(error.number(), error)
+}
+
+/// Why a header is turned down by itself: by 2 to 4, or by 5 to 8 at ingress, which asks them before table, clock and key
+/// matter.
+pub fn of_header(path: &[u8]) -> Option<Answer> {
+    if let Err(error) = expiration(path) {
+        return Some(of_header_error(error));
+    }
+    let mut left = Header(path).parts().0.to_vec();
+    let (now, none) = (
+        ScionNetworkTime::from_timestamp_secs(0),
+        Interfaces { ids: &[], states: &[] },
+    );
+    let answer = standard_path_ingress(&mut left, 0, now, &[0; 16], none, true);
+    let answer = of_ingress(answer).of_call(Call::Ingress, path, &left);
+    matches!(answer.number, 5..=8).then_some(answer)
 }
 
 pub fn of_journey(answer: Result<Verdict, JourneyError>) -> Answer {

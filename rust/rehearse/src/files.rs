@@ -117,9 +117,9 @@ impl Files {
                         shown(name)
                     ));
                 }
-                if is_text_form(name) {
+                if is_text(name) {
                     return mistake(format!(
-                        "{} has the text form of a path or plan, and writing would lose it: name another file to write",
+                        "{} is a text, and writing would lose it: name another file to write",
                         shown(name)
                     ));
                 }
@@ -229,22 +229,26 @@ fn other_letters(bytes: &[u8]) -> Option<String> {
 /// Bytes that are no text are taken as they are, but for text in other letters.
 pub fn as_bytes(bytes: Vec<u8>, name: &OsStr) -> Checked<Vec<u8>> {
     match other_letters(&bytes) {
-        Some(why) => mistake(format!("{} {why} (--raw takes the file as it is)", shown(name))),
+        Some(why) => mistake(format!("{} {why}", shown(name))),
         None => Ok(bytes),
     }
 }
 
-/// Whether a file is there that somebody has written by hand. Its first words tell.
-fn is_text_form(name: &OsStr) -> bool {
+/// Whether a file is there that somebody may have written by hand: text, but for hex. Its start tells.
+fn is_text(name: &OsStr) -> bool {
     let is_file = fs::metadata(name).is_ok_and(|about| about.is_file());
     let mut start = Vec::new();
     let read = |file: fs::File| file.take(65_536).read_to_end(&mut start);
     if !is_file || fs::File::open(name).and_then(read).is_err() {
         return false;
     }
-    let text = String::from_utf8_lossy(&start);
-    let text = text.strip_prefix('\u{feff}').unwrap_or(&text);
-    matches!(kinds::of(text), Kind::Plan | Kind::Path)
+    // A letter may be cut at the end of what was read.
+    let cut = std::str::from_utf8(&start)
+        .err()
+        .filter(|error| error.error_len().is_none());
+    let text = cut.map_or(&start[..], |error| &start[..error.valid_up_to()]);
+    let is_hex = hex::is_hex(text.strip_prefix("\u{feff}".as_bytes()).unwrap_or(text));
+    !is_hex && (plain_text(text).is_some() || other_letters(text).is_some())
 }
 
 /// A file's name as it is shown.

@@ -8,7 +8,8 @@ use std::ffi::OsStr;
 /// An interface: its number and its state byte.
 pub type Interface = (u16, u8);
 
-const KINDS: [&str; 4] = ["core", "parent", "child", "peer"];
+/// The kinds of links, by the two lowest bits of a state.
+pub const KINDS: [&str; 4] = ["core", "parent", "child", "peer"];
 
 const EXAMPLE: &str = "write `interface 1 child up`: a number, then core, parent, child or peer, then up or down";
 
@@ -25,7 +26,10 @@ pub fn from_words(line: &Line<'_>, words: &[&str]) -> Checked<Interface> {
     match (place, state) {
         (Some(kind), "up") => Ok((number, kind as u8 + 4)),
         (Some(kind), "down") => Ok((number, kind as u8)),
-        _ => line.wrong(EXAMPLE),
+        (Some(_), _) => line.wrong(format!("`{state}` is no state of a link: write up or down")),
+        (None, _) => line.wrong(format!(
+            "`{kind}` is no kind of link: write core, parent, child or peer"
+        )),
     }
 }
 

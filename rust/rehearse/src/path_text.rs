@@ -189,7 +189,7 @@ impl Reader {
                 line.wrong("`path` stands once, before the first segment")
             }
             ["segment", ..] if self.segments.len() == 3 => {
-                line.wrong("a path has at most three segments: leave this one out")
+                line.wrong("a path has at most three segments, `segment none` counted: leave one of them out")
             }
             ["segment", "none"] => {
                 self.segments.push(None);

@@ -1,10 +1,11 @@
 //! What is seen in a path and a plan, to look at beside the library's answer. Nothing here is asked for a verdict.
 
 use crate::header::Header;
+use crate::interfaces::KINDS;
 use crate::itinerary::{self, Read};
 use crate::plan::Station;
 use crate::report::counted;
-use standard_path::JourneyError;
+use standard_path::{expiration, JourneyError};
 
 /// The most sentences of one kind: whoever reads them starts with the first.
 const MOST: usize = 20;
@@ -27,12 +28,21 @@ pub fn plan_as_path(path: &[u8]) -> bool {
     itinerary::fits_some_path(path, stations)
 }
 
+/// A plan that would do as a path: a header from its first byte to its last.
+pub fn path_as_plan(plan: &[u8]) -> bool {
+    let header = Header(plan);
+    header.hops() > 0 && header.size() == plan.len() && expiration(plan).is_ok()
+}
+
 /// What is seen beside a refusal of a journey.
-pub fn beside(error: JourneyError, path: &[u8], read: &Read, readings: [u32; 2]) -> Vec<String> {
+pub fn beside(error: JourneyError, path: &[u8], (plan, read): (&[u8], &Read), readings: [u32; 2]) -> Vec<String> {
     let header = Header(path);
     let mut seen = Vec::new();
     if plan_as_path(path) {
         seen.push("the path is a plan by its bytes: the path is named first, then the plan".into());
+    }
+    if path_as_plan(plan) {
+        seen.push("the plan is a path by its bytes: the path is named first, then the plan".into());
     }
     match error {
         JourneyError::UnfitItinerary => seen.extend(in_plan(header, read, readings)),
@@ -137,22 +147,81 @@ fn odd_table(at: usize, station: &Station) -> Option<String> {
 
 // ---- beside a path that passed
 
-/// What no question asks for, and a site may trip over all the same.
+/// What no question asks for, and a site may trip over all the same. For a path that passed.
 pub fn not_asked(header: Header<'_>, stations: &[Station]) -> Vec<String> {
     let arrivals = stations.iter().enumerate().skip(1).filter_map(|(at, station)| {
         let arrival = station.arrival;
-        let entry = station.interfaces.iter().find(|(number, _)| *number == arrival);
-        match entry {
+        match kind_and_state(station, arrival) {
             None => Some(format!(
                 "station {at} does not list interface {arrival}, which the packet arrives by"
             )),
-            Some((_, state)) if *state < 4 => Some(format!(
+            Some((_, false)) => Some(format!(
                 "station {at} lists interface {arrival}, which the packet arrives by, as down"
             )),
-            Some(_) => None,
+            Some((_, true)) => None,
         }
     });
-    first(arrivals.chain(open_hops(header)).collect())
+    let mut seen: Vec<String> = arrivals.chain(open_hops(header)).collect();
+    let leaving = leaving(header);
+    for (at, pair) in stations.windows(2).enumerate() {
+        if let Some(&(out, cons_dir)) = leaving.get(at) {
+            let odd = odd_link(at, &pair[0], out, &pair[1]);
+            seen.extend(odd.or_else(|| odd_direction(at, &pair[0], out, cons_dir)));
+        }
+    }
+    first(seen)
+}
+
+/// By which interface each station but the last is left, and whether in construction direction. A segment's last hop has
+/// its station with the next one's first.
+fn leaving(header: Header<'_>) -> Vec<(u16, bool)> {
+    let segments = header.segments();
+    let hops = segments
+        .iter()
+        .flat_map(|segment| (segment.first_hop..).take(segment.hops - 1));
+    let hops = hops.map_while(|index| header.hop_in_step(index));
+    hops.map(|(info, hop)| (hop.travel(info.cons_dir())[1], info.cons_dir()))
+        .collect()
+}
+
+/// The kind of an interface that a station lists, and whether it is up.
+fn kind_and_state(station: &Station, number: u16) -> Option<(&'static str, bool)> {
+    let (_, state) = station.interfaces.iter().find(|(listed, _)| *listed == number)?;
+    Some((KINDS[usize::from(state % 4)], *state >= 4))
+}
+
+/// A packet that turns back, or a link whose two ends do not go together.
+fn odd_link(at: usize, from: &Station, out: u16, to: &Station) -> Option<String> {
+    if at > 0 && out == from.arrival {
+        return Some(format!(
+            "station {at} sends the packet back by interface {out}, which it arrived by"
+        ));
+    }
+    let (near, _) = kind_and_state(from, out)?;
+    let (far, _) = kind_and_state(to, to.arrival)?;
+    let fits = matches!((near, far), ("parent", "child") | ("child", "parent"))
+        || near == far && matches!(near, "core" | "peer");
+    (!fits).then(|| {
+        format!(
+            "station {at} leaves by interface {out} ({near}), and station {} arrives by {} ({far}): the kinds do not go \
+             together",
+            at + 1,
+            to.arrival
+        )
+    })
+}
+
+/// A segment that goes up as if it was constructed so, or down against its construction.
+fn odd_direction(at: usize, from: &Station, out: u16, cons_dir: bool) -> Option<String> {
+    let (kind, _) = kind_and_state(from, out)?;
+    let word = match (kind, cons_dir) {
+        ("parent", true) => "yes",
+        ("child", false) => "no",
+        _ => return None,
+    };
+    Some(format!(
+        "station {at} leaves by interface {out} ({kind}) in a segment with `cons_dir {word}`"
+    ))
 }
 
 /// Hops that have a 0 although their segment goes on there.

@@ -1,6 +1,6 @@
 //! What each number from 1 to 25 says, and what to do about it. docs/GUIDE.md has the same words in a table.
 
-use crate::header::Header;
+use crate::header::{Header, Segment};
 use crate::json::Json;
 
 /// A question of the scope document that was answered no.
@@ -61,8 +61,8 @@ const QUESTIONS: [Question; 25] = [
     question(
         "Interface 0, or travel ingress 0, or both equal?",
         "The packet came in by another interface than the hop names.",
-        "Correct the hop's `in` and sign again, or correct the interface that the packet arrives by; with a plan, look at the \
-         order of its stations too.",
+        "Look at the order of hops and stations, and whether `in` and `out` are exchanged; correct the hop and sign again, or \
+         correct the interface that the packet arrives by.",
     ),
     question(
         "Timestamp at most now?",
@@ -72,13 +72,14 @@ const QUESTIONS: [Question; 25] = [
     question(
         "Expiry at least now?",
         "The hop has expired: it ends before the reading of the clock.",
-        "Let the hop last longer (24 hours at most) or take a later timestamp and sign again, or ask for an earlier reading.",
+        "Let the hop last longer (24 hours at most) and sign again, or ask for an earlier reading; a later timestamp helps as \
+         long as it is no later than the earliest reading.",
     ),
     question(
         "MAC right, or MACs ignored?",
         "The hop's MAC is not the one that the key gives for its fields and the SegID.",
         "Compare key and interface with those of the station, and take the path as the station before it forwarded it; if \
-         that is so, sign the path again under the plan's keys, its hops without `mac`.",
+         that is so, sign it at its start (`curr_hf 0`, hops without `mac`) and walk it again from the first station.",
     ),
     question(
         "No travel-egress alert here, no travel-ingress alert on the next hop?",
@@ -88,12 +89,14 @@ const QUESTIONS: [Question; 25] = [
     question(
         "Travel ingress listed?",
         "At the segment change the interface that the packet comes in by is not in the table.",
-        "Add the interface to the station, or correct the hop's `in` and sign again.",
+        "Look at the order of hops, segments and stations; add the interface to the station, or correct the hop's `in` and \
+         sign again.",
     ),
     question(
         "Next travel egress listed?",
         "At the segment change the interface to leave by is not in the table.",
-        "Add the interface to the station, or correct the `out` of the next segment's first hop and sign again.",
+        "Look at the order of hops, segments and stations; add the interface to the station, or correct the `out` of the next \
+         segment's first hop and sign again.",
     ),
     question(
         "Pair core-child, child-core, child-child, child-peer or peer-child?",
@@ -133,14 +136,15 @@ const QUESTIONS: [Question; 25] = [
     question(
         "Itinerary sound, each table too, station count = hops − infos + 1, first arrival 0, later ones not, earliest at most latest?",
         "The plan is not sound, does not fit the path, or the readings are out of order.",
-        "Count one station for each hop, but one for the two hops of a segment change; write arrival 0 at the first station only, \
-         interfaces in ascending order, and no earliest reading after the latest. A path has 63 stations at most.",
+        "Add the hop that the path lacks, or correct the plan: one station for each hop, but one for the two hops of a segment \
+         change, arrival 0 at the first station only, interfaces in ascending order, at most 63 stations; and no earliest \
+         reading after the latest.",
     ),
     question(
         "CurrHF and CurrINF 0?",
         "The path does not stand at its start.",
-        "Take the path as its source sends it, CurrHF and CurrINF 0. Setting them to 0 does not do for a path on its way, or \
-         one turned around there: its SegIDs have moved.",
+        "Take the path as its source sends it, CurrHF and CurrINF 0; for the way back, turn it around where it was delivered \
+         (`rehearse reverse`). Setting them to 0 will not do for a path on its way: its SegIDs have moved.",
     ),
     question(
         "No alert bit in a hop?",
@@ -171,8 +175,14 @@ const LAST_SEGMENT_OF_ONE: Question = question(
 
 const EMPTY_SEGMENT: Question = question(
     "CurrINF equal to the segment index?",
-    "An empty segment stands before the one that the path has come to, and CurrINF does not skip it.",
-    "Leave no empty segment before a used one.",
+    "CurrINF names another segment than the one that CurrHF lies in, and an empty segment stands before a used one.",
+    "Leave no empty segment before a used one, and set CurrINF to the segment of CurrHF, counted from 0.",
+);
+
+const FIRST_OF_SEGMENT: Question = question(
+    "Interface 0, or travel ingress 0, or both equal?",
+    "At the segment change the next segment's first hop names another interface than the packet came in by.",
+    "Write `in 0` for a segment's first hop and sign again.",
 );
 
 const SEGMENT_OF_ONE: Question = question(
@@ -184,7 +194,8 @@ const SEGMENT_OF_ONE: Question = question(
 const EGRESS_LISTED: Question = question(
     "Egress listed?",
     "The interface to leave by is not in the station's table.",
-    "Add the interface to the station, or correct the hop's `out` and sign again.",
+    "Look at the order of hops, segments and stations; add the interface to the station, or correct the hop's `out` and \
+     sign again.",
 );
 
 const NO_INGRESS: Question = question(
@@ -208,15 +219,15 @@ const NO_EGRESS: Question = question(
 const MAC_AT_EGRESS: Question = question(
     "MAC right, or MACs ignored?",
     "The hop's MAC is not the one that the key gives for its fields and the SegID.",
-    "Compare the key with the station's, and take the path as ingress left it; if that is so, sign the path again under the \
-     plan's keys, its hops without `mac`.",
+    "Compare the key with the station's, and take the path as ingress left it; if that is so, sign it at its start \
+     (`curr_hf 0`, hops without `mac`) and walk it again from the first station.",
 );
 
 const MAC_IN_JOURNEY: Question = question(
     "MAC right, or MACs ignored?",
     "The hop's MAC is not the one that the station's key gives for its fields and the SegID.",
-    "Sign the path with this plan (`rehearse sign TEXT --plan PLAN`), its hops without `mac`; if it was, compare the keys \
-     and the order of the stations with those that it was signed with.",
+    "Compare the plan, its keys and the order of its stations with what the path was signed with; a path of your own can be \
+     signed again with this plan (`rehearse sign TEXT --plan PLAN`), its hops without `mac`.",
 );
 
 /// Which call gave an answer.
@@ -237,12 +248,15 @@ pub fn of_call(call: Call, number: u16, values: &[(&'static str, Json)], left: &
     // At a segment change the path has moved on from the hop that is named.
     let is_current = value("hop_index") == Some(&Json::Number(curr_hf));
     let is_next = value("index") == Some(&Json::Number(curr_hf + 1));
+    let starts_later =
+        |segment: &Segment| segment.info > 0 && value("hop_index") == Some(&Json::number(segment.first_hop));
     match (number, call) {
         (5, _) if header.hops() == 0 => Some(&NO_HOP),
         (5, Call::Egress) if is_next => Some(&ANOTHER_HOP),
         // Ingress delivers at the path's last hop, so that the whole step came here by a segment change.
         (5, _) if is_next => Some(&LAST_SEGMENT_OF_ONE),
-        (7, Call::Journey) => Some(&EMPTY_SEGMENT),
+        (7, _) if header.has_gap() => Some(&EMPTY_SEGMENT),
+        (9, _) if header.segments().iter().any(starts_later) => Some(&FIRST_OF_SEGMENT),
         (12, Call::Egress) => Some(&MAC_AT_EGRESS),
         (12, Call::Journey) => Some(&MAC_IN_JOURNEY),
         (14, _) if is_zero => Some(&NO_INGRESS),
@@ -258,6 +272,31 @@ pub fn of_number(number: u16) -> Option<&'static Question> {
     QUESTIONS.get(usize::from(number).checked_sub(1)?)
 }
 
+/// The questions beside the 25, by number.
+const OTHERS: [(u16, &Question); 12] = [
+    (5, &NO_HOP),
+    (5, &ANOTHER_HOP),
+    (5, &LAST_SEGMENT_OF_ONE),
+    (7, &EMPTY_SEGMENT),
+    (9, &FIRST_OF_SEGMENT),
+    (12, &MAC_AT_EGRESS),
+    (12, &MAC_IN_JOURNEY),
+    (14, &NO_INGRESS),
+    (15, &NO_NEXT_EGRESS),
+    (15, &EGRESS_LISTED),
+    (15, &NO_EGRESS),
+    (18, &SEGMENT_OF_ONE),
+];
+
+/// All that a number can mean.
+pub fn all_of(number: u16) -> Vec<&'static Question> {
+    let others = OTHERS
+        .iter()
+        .filter(|(other, _)| *other == number)
+        .map(|(_, question)| *question);
+    of_number(number).into_iter().chain(others).collect()
+}
+
 #[cfg(test)]
 mod tests {
     use super::*;
@@ -265,26 +304,14 @@ mod tests {
     #[test]
     fn the_guide_has_the_same_words() {
         let guide = include_str!("../../../docs/GUIDE.md");
-        let others = [
-            (5, &NO_HOP),
-            (5, &ANOTHER_HOP),
-            (5, &LAST_SEGMENT_OF_ONE),
-            (7, &EMPTY_SEGMENT),
-            (12, &MAC_AT_EGRESS),
-            (12, &MAC_IN_JOURNEY),
-            (18, &SEGMENT_OF_ONE),
-            (14, &NO_INGRESS),
-            (15, &NO_NEXT_EGRESS),
-            (15, &EGRESS_LISTED),
-            (15, &NO_EGRESS),
-        ];
-        let all = (1..=25).filter_map(|number| Some((number, of_number(number)?)));
-        for (number, Question { asked, no, advice }) in all.chain(others) {
-            let row = format!("| {number} | {asked} | {no} | {advice} |");
-            assert!(
-                guide.lines().any(|line| line == row),
-                "docs/GUIDE.md lacks the row\n{row}"
-            );
+        for number in 1..=25 {
+            for Question { asked, no, advice } in all_of(number) {
+                let row = format!("| {number} | {asked} | {no} | {advice} |");
+                assert!(
+                    guide.lines().any(|line| line == row),
+                    "docs/GUIDE.md lacks the row\n{row}"
+                );
+            }
         }
         assert!(of_number(0).is_none() && of_number(26).is_none() && of_number(100).is_none());
     }

@@ -102,6 +102,17 @@ fn a_plan_in_the_place_of_a_path_is_named() {
         ran.out
     );
     assert_eq!(folder.run("show good.path").err, "");
+    // And the other way round.
+    let ran = folder.run(&format!("journey good.path good.path {READINGS}"));
+    assert!(
+        ran.out.contains("    seen         the plan is a path by its bytes"),
+        "{}",
+        ran.out
+    );
+    assert!(folder
+        .run("plan --show good.path")
+        .out
+        .starts_with("# this is a path by its bytes: `rehearse show` shows it\n"));
 }
 
 /// A station of a plan stands for its table, its key and its arrival.
@@ -343,7 +354,32 @@ fn words_that_are_almost_right_are_named() {
         let ran = folder.run(call);
         assert!(ran.status == 2 && ran.err.contains(meant), "{call}: {ran:?}");
     }
+    let twelve = folder.run("help 12").out;
+    assert_eq!(
+        twelve.matches("question 12  MAC right, or MACs ignored? No. ").count(),
+        3
+    );
+    assert_eq!(folder.run("help 1").out.lines().count(), 2);
+    for number in ["0", "26", "-1", "+1"] {
+        let ran = folder.run(&format!("help {number}"));
+        assert_eq!(ran.status, 2, "{number}");
+    }
     for (command, text, said) in [
+        (
+            "plan",
+            "station\ninterface 1 parent UP\n",
+            "line 2: `UP` is no state of a link: write up or down",
+        ),
+        (
+            "plan",
+            "station\ninterface 1 kid up\n",
+            "line 2: `kid` is no kind of link: write core, parent, child or peer",
+        ),
+        (
+            "sign",
+            "segment none\nsegment none\nsegment none\nsegment\n",
+            "line 4: a path has at most three segments, `segment none` counted",
+        ),
         ("plan", "Station\n", "line 1: write `station` in small letters"),
         (
             "plan",
@@ -541,22 +577,30 @@ fn long_texts_are_given_up_early() {
 // ---- files that are written
 
 #[test]
-fn a_text_form_is_not_written_over() {
+fn a_text_is_not_written_over() {
     let folder = Folder::with_site();
     folder.write("marked.txt", format!("\u{feff}{}", folder.text("good.txt")));
+    folder.write("typo.txt", "statoin\n");
+    folder.write("table.txt", "interface 1 child up\n");
+    folder.write("umlauts.txt", "# \u{fc}".repeat(40_000));
+    folder.write("latin.txt", b"# a plan of K\xfchlhalle\nstation\n");
     for call in [
         "plan plan.txt -o good.txt",
         "sign good.txt --plan site.plan -o late.txt",
         "reverse good.path --write plan.txt",
         "reverse good.path --write marked.txt",
+        "reverse good.path --write typo.txt",
+        "plan plan.txt -o table.txt",
+        "plan plan.txt -o umlauts.txt",
+        "plan plan.txt -o latin.txt",
     ] {
-        let before = folder.text(call.split(' ').next_back().unwrap());
+        let before = folder.read(call.split(' ').next_back().unwrap());
         let ran = folder.run(call);
         assert!(
-            ran.status == 2 && ran.err.contains("has the text form of a path or plan"),
+            ran.status == 2 && ran.err.contains("is a text, and writing would lose it"),
             "{call}: {ran:?}"
         );
-        assert_eq!(folder.text(call.split(' ').next_back().unwrap()), before);
+        assert_eq!(folder.read(call.split(' ').next_back().unwrap()), before);
     }
     // Bytes and hex may be written over.
     for call in [
@@ -575,7 +619,8 @@ fn half_a_file_is_never_left() {
     let mut long = folder.read("good.path");
     long.resize(8 << 20, 7);
     folder.write("long", &long);
-    folder.write("out", "as it was");
+    let before: &[u8] = b"\0as it was";
+    folder.write("out", before);
     let call = format!("ulimit -f 1; trap '' XFSZ; {PROGRAM} reverse long --write out");
     let ran = Command::new("sh")
         .args(["-c", &call])
@@ -583,7 +628,7 @@ fn half_a_file_is_never_left() {
         .output()
         .unwrap();
     assert_eq!(ran.status.code(), Some(2), "{ran:?}");
-    assert_eq!(folder.text("out"), "as it was");
+    assert_eq!(folder.read("out"), before);
     let names: Vec<_> = std::fs::read_dir(&folder.0)
         .unwrap()
         .map(|entry| entry.unwrap().file_name())

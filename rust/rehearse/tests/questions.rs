@@ -152,12 +152,12 @@ fn the_advice_fits_the_call() {
     let first_two = &plan[..plan.find("# 2:").unwrap()];
     folder.write("two", first_two);
     for (path, plan, number, advice) in [
-        ("empty-first", "two", 7, "Leave no empty segment before a used one."),
+        ("empty-first", "two", 7, "Leave no empty segment before a used one, and"),
         (
             "empty-middle",
             "plan.txt",
             7,
-            "Leave no empty segment before a used one.",
+            "Leave no empty segment before a used one, and",
         ),
         ("one-middle", "plan.txt", 18, "Give each segment at least two hops."),
         (
@@ -178,7 +178,7 @@ fn the_advice_fits_the_call() {
             15,
             "check the order of the hops and their `out`, and sign again.",
         ),
-        ("kept", "plan.txt", 12, "its hops without `mac`;"),
+        ("kept", "plan.txt", 12, "its hops without `mac`."),
     ] {
         let answer = parse(&folder.run(&format!("journey {path} {plan} {READINGS} --json")).out);
         let stop = answer.get("stops").unwrap();
@@ -343,7 +343,7 @@ fn a_wrong_mac_in_a_journey_says_to_sign_with_its_plan() {
     let ran = folder.run(&format!("journey good.path other.txt {READINGS}"));
     assert!(
         ran.out
-            .contains("Sign the path with this plan (`rehearse sign TEXT --plan PLAN`)"),
+            .contains("can be signed again with this plan (`rehearse sign TEXT --plan PLAN`), its hops without `mac`."),
         "{}",
         ran.out
     );
@@ -443,6 +443,12 @@ fn what_no_question_asks_for_stands_beside_a_pass() {
         ),
     );
     folder.write("open.txt", good.replace("in 21 out 22", "in 0 out 0"));
+    folder.write("back", plan.replace("interface 22 child up", "interface 22 peer up"));
+    folder.write("back.txt", good.replace("in 21 out 22", "in 21 out 21"));
+    assert_eq!(folder.run("sign back.txt --plan back -o back.path").status, 0);
+    folder.write("kinds", plan.replace("interface 31 parent up", "interface 31 child up"));
+    folder.write("up.txt", good.replace("cons_dir no", "cons_dir yes"));
+    assert_eq!(folder.run("sign up.txt --plan plan.txt -o up.path").status, 0);
     assert_eq!(folder.run("sign open.txt --plan zero -o open.path").status, 0);
     for (path, plan, not_asked) in [
         ("good.path", "site.plan", &[][..]),
@@ -455,6 +461,21 @@ fn what_no_question_asks_for_stands_beside_a_pass() {
             "good.path",
             "unlisted",
             &["station 3 does not list interface 31, which the packet arrives by"],
+        ),
+        (
+            "back.path",
+            "back",
+            &["station 2 sends the packet back by interface 21, which it arrived by"],
+        ),
+        (
+            "good.path",
+            "kinds",
+            &["station 2 leaves by interface 22 (child), and station 3 arrives by 31 (child): the kinds do not go together"],
+        ),
+        (
+            "up.path",
+            "plan.txt",
+            &["station 0 leaves by interface 1 (parent) in a segment with `cons_dir yes`"],
         ),
         (
             "open.path",
@@ -583,7 +604,10 @@ fn a_command_s_objects_have_the_same_names() {
     }
     let shown = parse(&folder.run("plan --show short --json").out);
     assert_eq!((shown.text("answer"), shown.number("number")), ("refused", Some(23)));
-    assert!(shown.text("what_to_do").starts_with("Count one station"), "{shown:?}");
+    assert!(
+        shown.text("what_to_do").starts_with("Add the hop that the path lacks"),
+        "{shown:?}"
+    );
     let written = |call: &str| {
         parse(&folder.run(&format!("{call} --json")).out)
             .text("written")

@@ -105,26 +105,32 @@ fn a_path_s_bytes_come_back_through_its_text() {
         assert_eq!(shown.status, i32::from(hops > 64), "{lengths:?}");
         folder.write("text", &shown.out);
         let signed = folder.run("sign text -o again");
-        // What the library turns down is said, and so is a path without hops.
-        assert_eq!(signed.status, i32::from(hops > 64), "{}", shown.out);
-        assert_eq!(signed.err.contains("number 4:"), hops > 64, "{}", signed.err);
-        assert_eq!(signed.err.contains("has no hop"), hops == 0, "{}", signed.err);
-        let used = lengths
-            .iter()
-            .rposition(|&length| length != 0)
-            .map_or(0, |last| last as u64 + 1);
-        let has_gap = used != infos;
-        assert_eq!(signed.err.contains("behind an empty one"), has_gap, "{}", signed.err);
+        // What the library turns down is said, and so is a path without hops, with a gap, or on its way.
+        let status = folder.run("show path --raw").status;
+        assert_eq!(signed.status, if hops == 0 { 0 } else { status }, "{}", shown.out);
         assert_eq!(
-            signed.err.is_empty(),
-            (1..=64).contains(&hops) && !has_gap,
+            signed.err.contains("turns this header down"),
+            signed.status == 1,
             "{}",
             signed.err
         );
+        assert_eq!(signed.err.contains("number 4:"), hops > 64, "{}", signed.err);
+        assert_eq!(signed.err.contains("the text has no hop"), hops == 0, "{}", signed.err);
+        let last = lengths.iter().rposition(|&length| length != 0);
+        let has_gap = last.map_or(0, |last| last as u64 + 1) != infos;
+        assert_eq!(signed.err.contains("behind an empty one"), has_gap, "{}", signed.err);
+        let is_moved = path[0] & 63 != 0;
+        assert_eq!(
+            signed.err.contains("as its source sends it"),
+            is_moved,
+            "{}",
+            signed.err
+        );
+        let is_plain = signed.status == 0 && hops > 0 && !has_gap && !is_moved;
+        assert_eq!(signed.err.is_empty(), is_plain, "{}", signed.err);
         assert_eq!(to_hex(&folder.read("again")), to_hex(&path), "{}", shown.out);
         folder.run("sign text -o again.hex");
         assert_eq!(folder.run("sign --show again.hex").out, shown.out);
-        assert!(folder.run("show path --raw").status < 2);
         parse(&folder.run("show path --raw --json").out);
     }
 }

@@ -81,12 +81,17 @@ pub fn check(files: &Files, path: &OsStr, plan: &OsStr, between: &Between) -> Ch
     let why = match verdict {
         Ok(Verdict::Passed) => {
             let seen = seen::not_asked(Header(&path), &read.stations);
-            report.list("not asked", "not_asked", seen)
+            let more = match seen.len() {
+                0 | 1 => String::new(),
+                count => format!(" (and {} more)", count - 1),
+            };
+            let first = report.list("not asked", "not_asked", seen);
+            first.map(|first| format!("not asked: {first}{more}"))
         }
         Ok(Verdict::NotPassed) => where_it_stops(&path, &read.stations, readings, &mut report),
         Err(error) => {
-            let seen = seen::beside(error, &path, &read, readings);
-            report.list("seen", "seen", seen)
+            let seen = seen::beside(error, &path, (&plan, &read), readings);
+            report.list("seen", "seen", seen).or(Some(answer.sentence.clone()))
         }
     };
     report.lines(&answer.details());
@@ -132,7 +137,10 @@ fn where_it_stops(path: &[u8], stations: &[plan::Station], readings: [u32; 2], r
         );
         report.line("", answer.headline());
         report.lines(&answer.about());
-        report.member("stops", stop_json(station, reading, &answer));
+        report.member(
+            "stops",
+            stop_json((station, stations[station].arrival), reading, &answer),
+        );
         return Some(format!(
             "station {station}, number {}: {}",
             answer.number, answer.sentence
@@ -141,8 +149,12 @@ fn where_it_stops(path: &[u8], stations: &[plan::Station], readings: [u32; 2], r
     None
 }
 
-fn stop_json(station: usize, reading: u32, answer: &Answer) -> Json {
-    let mut members = vec![("station", Json::number(station)), ("reading", Json::number(reading))];
+fn stop_json((station, arrival): (usize, u16), reading: u32, answer: &Answer) -> Json {
+    let mut members = vec![
+        ("station", Json::number(station)),
+        ("arrival", Json::number(arrival)),
+        ("reading", Json::number(reading)),
+    ];
     members.extend(answer.json("step").into_iter().filter(|(name, _)| *name != "command"));
     members.push(("named_hops", answer.hops_json()));
     Json::Object(members)

@@ -22,6 +22,7 @@ use crate::nearest::nearest;
 use crate::output::printable;
 use crate::report::Report;
 use crate::seen;
+use crate::sentences::{self, Question};
 use std::ffi::{OsStr, OsString};
 
 /// What a call writes and how it ends.
@@ -107,6 +108,9 @@ pub fn run(words: &[OsString], files: &Files) -> Said {
         Some("help") => &words[1],
         _ => first,
     };
+    if let Some(said) = name.to_str().filter(|_| first == "help").and_then(about_number) {
+        return said;
+    }
     let Some(command) = COMMANDS.iter().find(|command| name == command.form.command) else {
         let word = name.to_string_lossy();
         let meant = nearest(&word, COMMANDS.iter().map(|command| command.form.command));
@@ -123,6 +127,16 @@ pub fn run(words: &[OsString], files: &Files) -> Said {
         Ok(report) => finished(command.form.command, report, as_json),
         Err(mistake) => wrong(Some(command.form.command), &mistake, as_json),
     }
+}
+
+/// What a number from 1 to 25 means.
+fn about_number(word: &str) -> Option<Said> {
+    let number = word.parse().ok().filter(|_| !word.starts_with('+'))?;
+    let mut text = String::new();
+    for Question { asked, no, advice } in sentences::all_of(number) {
+        text += &format!("question {number}  {asked} No. {no}\nwhat to do   {advice}\n");
+    }
+    (!text.is_empty()).then(|| said(&text))
 }
 
 fn said(text: &str) -> Said {

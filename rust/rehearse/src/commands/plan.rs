@@ -92,6 +92,9 @@ fn show(arguments: &Arguments, files: &Files, name: &OsStr) -> Checked<Report> {
     let refused = turned_down(&bytes, &read.stations);
     let fits = refused.is_none();
     let mut remarks: Vec<String> = refused.into_iter().chain(read.remarks).collect();
+    if seen::path_as_plan(&bytes) {
+        remarks.insert(0, "this is a path by its bytes: `rehearse show` shows it".into());
+    }
     match itinerary::to_bytes(&read.stations) {
         Ok(again) if again == bytes => {}
         Ok(_) => remarks.push("the records are laid out otherwise than `rehearse plan` lays out this text".into()),

@@ -11,10 +11,7 @@ use crate::hop_words;
 use crate::json::Json;
 use crate::mistake::Checked;
 use crate::report::{counted, Report};
-use crate::sentences::Call;
-use standard_path::{
-    calculate_segment_index, expiration, standard_path_ingress, HeaderError, Interfaces, ScionNetworkTime,
-};
+use standard_path::{calculate_segment_index, expiration};
 
 pub const FORM: Form = Form {
     command: "show",
@@ -27,13 +24,10 @@ pub fn run(arguments: &Arguments, files: &Files) -> Checked<Report> {
     let mut notes = Vec::new();
     let path = read_path(arguments, files, &mut notes)?;
     let header = Header(&path);
-    let mut report = match expiration(&path) {
-        Ok(_) => match at_ingress(&path) {
-            None => whole(header),
-            Some(answer) => Report::of("show", &answer),
-        },
-        Err(error @ HeaderError::MetaTooShort) => return Ok(too_short(&path, error)),
-        Err(error) => Report::of("show", &answers::of_header_error(error)),
+    let mut report = match answers::of_header(&path) {
+        None => whole(header),
+        Some(answer) if answer.number == 2 => return Ok(too_short(&path, &answer)),
+        Some(answer) => Report::of("show", &answer),
     };
     meta(header, &mut report);
     let used = header.segments();
@@ -50,25 +44,13 @@ pub fn run(arguments: &Arguments, files: &Files) -> Checked<Report> {
 }
 
 /// Less than a meta word: there is nothing to show but the bytes.
-fn too_short(path: &[u8], error: HeaderError) -> Report {
-    let mut report = Report::of("show", &answers::of_header_error(error));
+fn too_short(path: &[u8], answer: &Answer) -> Report {
+    let mut report = Report::of("show", answer);
     let bytes = if path.is_empty() { "none".into() } else { to_hex(path) };
     report.line("bytes read", bytes);
     report.member("bytes_read", Json::number(path.len()));
     report.member("bytes_behind", Json::number(0));
     report
-}
-
-/// What ingress answers where the header alone is to blame: 5 to 8, which it asks before table, clock and key matter.
-fn at_ingress(path: &[u8]) -> Option<Answer> {
-    let mut left = Header(path).parts().0.to_vec();
-    let (now, none) = (
-        ScionNetworkTime::from_timestamp_secs(0),
-        Interfaces { ids: &[], states: &[] },
-    );
-    let answer = standard_path_ingress(&mut left, 0, now, &[0; 16], none, true);
-    let answer = answers::of_ingress(answer).of_call(Call::Ingress, path, &left);
-    matches!(answer.number, 5..=8).then_some(answer)
 }
 
 fn whole(header: Header<'_>) -> Report {

@@ -78,7 +78,8 @@ fn write(arguments: &Arguments, files: &Files) -> Checked<Report> {
 fn told(signed: &Signed) -> Report {
     let header = Header(&signed.bytes);
     let ends = expiration(&signed.bytes);
-    let refused = ends.err().map(answers::of_header_error);
+    // A path without a hop is what its text says, and noted as such.
+    let refused = answers::of_header(&signed.bytes).filter(|_| header.hops() > 0);
     let mut report = match &refused {
         None => Report::done("sign", "written", String::new()),
         Some(answer) => Report::of("sign", answer),
@@ -95,6 +96,13 @@ fn told(signed: &Signed) -> Report {
     let turned_down = |answer: Answer| format!("the library turns this header down: {}", answer.headline());
     report.notes.extend(refused.map(turned_down));
     report.notes.extend(gap(header));
+    if header.curr_hf() != 0 {
+        report.notes.push(format!(
+            "curr_hf is {}, but a path is signed as its source sends it: for a path that travels leave it at 0, and `rehearse \
+             step --write` moves it on",
+            header.curr_hf()
+        ));
+    }
     if header.hops() == 0 {
         let note = "the text has no hop: the header is the 4 bytes of a meta word";
         report.notes.push(note.into());
@@ -161,7 +169,9 @@ fn without_key(signed: &Signed, stations: Option<usize>) -> Option<String> {
 fn show(arguments: &Arguments, files: &Files, name: &OsStr) -> Checked<Report> {
     for option in ["-o", "--plan"] {
         if arguments.value(option).is_some() {
-            return arguments.wrong(format!("--show prints the text, and takes no {option}"));
+            return arguments.wrong(format!(
+                "--show prints the text, and takes no {option}: write `> TEXT` behind the call"
+            ));
         }
     }
     let path = files.read_path(name, spelling(arguments)?)?;
