@@ -84,12 +84,12 @@ fn alerts(header: Header<'_>) -> Vec<String> {
 /// The hops' interfaces in the direction of travel, segment by segment.
 fn ways_in(header: Header<'_>) -> String {
     let segments = header.segments().into_iter().map(|segment| {
+        let Some(info) = header.info_in_step(segment.place) else {
+            return format!("(segment {} has no info field)", segment.place);
+        };
         let hops = (segment.first_hop..).take(segment.hops);
-        let hops = hops.map_while(|index| header.hop_in_step(index));
-        listed(
-            hops.map(|(info, hop)| hop.travel(info.cons_dir())[0].to_string())
-                .collect(),
-        )
+        let hops = hops.map_while(|index| header.hop(index));
+        listed(hops.map(|hop| hop.travel(info.cons_dir())[0].to_string()).collect())
     });
     match segments.collect::<Vec<_>>() {
         segments if segments.is_empty() => "none".into(),

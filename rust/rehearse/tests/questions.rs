@@ -323,6 +323,14 @@ fn a_header_with_a_gap_is_shown_as_the_step_reads_it() {
     assert!(folder.run("sign --show gap.hex").err.contains(note));
     folder.write("text", folder.run("sign --show gap.hex").out);
     assert!(folder.run("sign text -o again").err.contains(note));
+    folder.write("plan.txt", "station\narrival 0\nkey 000102030405060708090a0b0c0d0e0f\n");
+    let ran = folder.run(&format!("journey gap.hex plan.txt {READINGS}"));
+    assert!(
+        ran.out
+            .contains("the path's hops come in by 10, 11 | (segment 2 has no info field)\n"),
+        "{}",
+        ran.out
+    );
     // A field that is cut off has the same names as one that is there.
     folder.write("cut.hex", "00002000 0000");
     let cut = parse(&folder.run("show cut.hex --json").out);

@@ -35,60 +35,30 @@ pub struct Said {
 struct Command {
     form: &'static Form,
     help: &'static str,
-    run: fn(&Arguments, &Files) -> Checked<Report>,
+    run: Run,
+}
+
+type Run = fn(&Arguments, &Files) -> Checked<Report>;
+
+const fn command(form: &'static Form, help: &'static str, run: Run) -> Command {
+    Command { form, help, run }
 }
 
 const COMMANDS: [Command; 10] = [
-    Command {
-        form: &demo::FORM,
-        help: include_str!("../../help/demo.txt"),
-        run: demo::run,
-    },
-    Command {
-        form: &show::FORM,
-        help: include_str!("../../help/show.txt"),
-        run: show::run,
-    },
-    Command {
-        form: &step::STEP,
-        help: include_str!("../../help/step.txt"),
-        run: step::whole,
-    },
-    Command {
-        form: &step::INGRESS,
-        help: include_str!("../../help/ingress.txt"),
-        run: step::ingress,
-    },
-    Command {
-        form: &step::EGRESS,
-        help: include_str!("../../help/egress.txt"),
-        run: step::egress,
-    },
-    Command {
-        form: &journey::FORM,
-        help: include_str!("../../help/journey.txt"),
-        run: journey::run,
-    },
-    Command {
-        form: &reverse::FORM,
-        help: include_str!("../../help/reverse.txt"),
-        run: reverse::run,
-    },
-    Command {
-        form: &expiration::FORM,
-        help: include_str!("../../help/expiration.txt"),
-        run: expiration::run,
-    },
-    Command {
-        form: &plan::FORM,
-        help: include_str!("../../help/plan.txt"),
-        run: plan::run,
-    },
-    Command {
-        form: &sign::FORM,
-        help: include_str!("../../help/sign.txt"),
-        run: sign::run,
-    },
+    command(&demo::FORM, include_str!("../../help/demo.txt"), demo::run),
+    command(&show::FORM, include_str!("../../help/show.txt"), show::run),
+    command(&step::STEP, include_str!("../../help/step.txt"), step::whole),
+    command(&step::INGRESS, include_str!("../../help/ingress.txt"), step::ingress),
+    command(&step::EGRESS, include_str!("../../help/egress.txt"), step::egress),
+    command(&journey::FORM, include_str!("../../help/journey.txt"), journey::run),
+    command(&reverse::FORM, include_str!("../../help/reverse.txt"), reverse::run),
+    command(
+        &expiration::FORM,
+        include_str!("../../help/expiration.txt"),
+        expiration::run,
+    ),
+    command(&plan::FORM, include_str!("../../help/plan.txt"), plan::run),
+    command(&sign::FORM, include_str!("../../help/sign.txt"), sign::run),
 ];
 
 const HELP: &str = include_str!("../../help/rehearse.txt");
