@@ -64,9 +64,7 @@ impl Answer {
         // 13 to 16 name the first of the two hops of a segment change, and the path has moved on to the second.
         let is_change = matches!(self.number, 13..=16) && *index != u64::from(Header(left).curr_hf());
         let hops = (first..).take(if is_change { 2 } else { 1 });
-        self.hops = hops
-            .filter_map(|index| header.hop_in_step(index).map(|(info, hop)| (index, info, hop)))
-            .collect();
+        self.hops = hops.filter_map(|index| header.hop_in_step(index)).collect();
         self
     }
 
@@ -290,8 +288,8 @@ pub fn of_header_error(error: HeaderError) -> Answer {
     Answer::refused(error.number(), error)
 }
 
-/// Why a header is turned down by itself: by 2 to 4, or by 5 to 8 at ingress, which asks them before table, clock and key
-/// matter.
+/// Why a header is turned down by itself: by 2 to 4, or by 5 to 8 at ingress. An empty table is sound, and clock, table and
+/// key are asked about behind these.
 pub fn of_header(path: &[u8]) -> Option<Answer> {
     if let Err(error) = expiration(path) {
         return Some(of_header_error(error));

@@ -1,6 +1,6 @@
 //! The words of a call, taken apart by what its command takes.
 
-use crate::mistake::{mistake, Checked, Mistake};
+use crate::mistake::{mistake, Checked};
 use crate::nearest::nearest;
 use std::ffi::{OsStr, OsString};
 
@@ -48,6 +48,15 @@ impl Arguments {
                 _ => read.places.push(word.clone()),
             }
         }
+        let files = read.places.iter().chain(
+            read.values
+                .iter()
+                .filter(|(name, _)| *name != "-o")
+                .map(|(_, value)| value),
+        );
+        if files.filter(|name| *name == "-").count() > 1 {
+            return mistake("standard input is named twice: only one of the files can be -");
+        }
         match read.places.get(form.places.len()) {
             None => Ok(read),
             Some(word) => read.wrong(format!(
@@ -92,7 +101,7 @@ impl Arguments {
         };
         match meant {
             Some(option) => format!(", but {option} is"),
-            None if name.starts_with("--") => String::new(),
+            None if name.starts_with("--") || name.len() < 3 => String::new(),
             None => format!("; a file of that name is written ./{name}"),
         }
     }
@@ -134,9 +143,10 @@ impl Arguments {
     /// The same as text.
     pub fn needed(&self, name: &str) -> Checked<&str> {
         let value = self.given(name)?;
-        value
-            .to_str()
-            .ok_or_else(|| Mistake(format!("{name}: `{}` is no UTF-8: rename it", value.to_string_lossy())))
+        value.to_str().map_or_else(
+            || mistake(format!("{name}: `{}` is no UTF-8: rename it", value.to_string_lossy())),
+            Ok,
+        )
     }
 
     pub fn place(&self, at: usize) -> Option<&OsStr> {

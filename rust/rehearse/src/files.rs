@@ -7,7 +7,7 @@ use std::cell::{Cell, RefCell};
 use std::collections::{BTreeMap, BTreeSet};
 use std::ffi::{OsStr, OsString};
 use std::fs;
-use std::io::{self, ErrorKind, Read};
+use std::io::{self, ErrorKind, Read, Write};
 use std::path::{Path, PathBuf};
 
 /// The most bytes that are read of a file: far more than any header or plan has.
@@ -79,7 +79,8 @@ impl Files {
             None => mistake(match other_letters(&bytes) {
                 Some(why) => format!("{} {why}", shown(name)),
                 None => format!(
-                    "{} is no text: give the text form that the command's --help describes; `--show` turns bytes into it",
+                    "{} is no text: give the text form that the command's --help describes; `rehearse plan --show` and \
+                     `rehearse sign --show` turn bytes into it",
                     shown(name)
                 ),
             }),
@@ -134,28 +135,41 @@ impl Files {
     }
 }
 
-/// Writes all of a file, or leaves what is there: beside it first, and then in its place. A device is written as it is.
+/// Writes all of a file, or leaves what is there: beside it first, and then in its place. What is no plain file, or stands
+/// where nothing can be put beside it, is written as it is.
 pub fn write_whole(name: &Path, content: &[u8]) -> io::Result<()> {
     let place = fs::canonicalize(name).unwrap_or_else(|_| name.into());
-    let about = fs::metadata(&place).ok();
+    let about = fs::symlink_metadata(&place).ok();
     if about.as_ref().is_some_and(|about| !about.is_file()) {
-        return fs::write(&place, content);
+        return fs::write(name, content);
     }
     if about.is_some() {
         // Whoever may not write the file may not put another in its place.
         fs::OpenOptions::new().write(true).open(&place)?;
     }
-    let mut beside = place.clone().into_os_string();
-    beside.push(format!(".{}.part", std::process::id()));
-    let written = fs::write(&beside, content).and_then(|()| match &about {
-        Some(about) => fs::set_permissions(&beside, about.permissions()),
-        None => Ok(()),
-    });
+    let beside = place.with_file_name(format!(".rehearse-{}.part", std::process::id()));
+    let mut options = fs::OpenOptions::new();
+    let Ok(mut file) = options.write(true).create_new(true).open(&beside) else {
+        return fs::write(name, content);
+    };
+    let kept = about.map_or(Ok(()), |about| keep_rights(&beside, &about));
+    let written = kept.and_then(|()| file.write_all(content));
     let written = written.and_then(|()| fs::rename(&beside, &place));
     if written.is_err() {
         let _ = fs::remove_file(&beside);
     }
     written
+}
+
+/// Gives a new file the rights, and where it can be done the owner, of the one whose place it takes. It is still empty.
+fn keep_rights(name: &Path, about: &fs::Metadata) -> io::Result<()> {
+    #[cfg(unix)]
+    {
+        use std::os::unix::fs::{chown, MetadataExt};
+        // Who may not give a file away keeps it.
+        let _ = chown(name, Some(about.uid()), Some(about.gid()));
+    }
+    fs::set_permissions(name, about.permissions())
 }
 
 /// What to say of a text that is given as a path.
@@ -179,9 +193,9 @@ pub fn almost_hex(of: &str, why: &str) -> String {
     format!("{of}: {why} (--raw takes the file as it is)")
 }
 
-/// The bytes as raw or hex, or nothing if they have to be looked at further. Some editors put a byte order mark before hex.
+/// The bytes as raw or hex, or nothing if they have to be looked at further.
 pub fn spelled(bytes: &[u8], spelling: Spelling, name: &OsStr) -> Option<Checked<Vec<u8>>> {
-    let text = bytes.strip_prefix("\u{feff}".as_bytes()).unwrap_or(bytes);
+    let text = without_mark(bytes);
     match spelling {
         Spelling::Raw => Some(Ok(bytes.to_vec())),
         Spelling::Hex => Some(hex::from_hex(text, &shown(name))),
@@ -199,10 +213,16 @@ pub fn is_plain(text: &str) -> bool {
         .all(|letter| !letter.is_control() || matches!(letter, '\t' | '\n' | '\r'))
 }
 
+/// Bytes without the mark that some editors put before a text.
+pub fn without_mark(bytes: &[u8]) -> &[u8] {
+    bytes.strip_prefix("\u{feff}".as_bytes()).unwrap_or(bytes)
+}
+
 /// Text in UTF-8, a line ending in a line feed however it was written, or nothing if it is none.
 pub fn plain_text(bytes: &[u8]) -> Option<String> {
-    let text = std::str::from_utf8(bytes).ok().filter(|text| is_plain(text))?;
-    let text = text.strip_prefix('\u{feff}').unwrap_or(text);
+    let text = std::str::from_utf8(without_mark(bytes))
+        .ok()
+        .filter(|text| is_plain(text))?;
     Some(text.replace("\r\n", "\n").replace('\r', "\n"))
 }
 
@@ -247,7 +267,7 @@ fn is_text(name: &OsStr) -> bool {
         .err()
         .filter(|error| error.error_len().is_none());
     let text = cut.map_or(&start[..], |error| &start[..error.valid_up_to()]);
-    let is_hex = hex::is_hex(text.strip_prefix("\u{feff}".as_bytes()).unwrap_or(text));
+    let is_hex = hex::is_hex(without_mark(text));
     !is_hex && (plain_text(text).is_some() || other_letters(text).is_some())
 }
 

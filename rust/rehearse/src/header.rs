@@ -9,10 +9,13 @@ pub struct Header<'a>(pub &'a [u8]);
 
 /// A length that is not 0, with the info field and the hops that go with it.
 pub struct Segment {
-    /// The length's place among the three, by which the step looks for its info field.
+    /// The length's place among the three. A path that stands in the segment has this info field, by CurrINF.
     pub place: usize,
     /// The info field that is written for it: they follow each other without gaps.
     pub info: usize,
+    /// The info field that the step takes when it comes to the segment: the first by its place, a later one behind that of
+    /// the segment before it.
+    pub reached: usize,
     pub first_hop: usize,
     pub hops: usize,
 }
@@ -83,16 +86,17 @@ impl<'a> Header<'a> {
         Some(Hop { bytes: *bytes })
     }
 
-    /// The info field that the step takes for the segment at a place among the three, if there is one.
-    pub fn info_in_step(&self, place: usize) -> Option<Info> {
-        self.info(place).filter(|_| place < self.infos())
+    /// An info field that the header has by its lengths.
+    pub fn own_info(&self, index: usize) -> Option<Info> {
+        self.info(index).filter(|_| index < self.infos())
     }
 
-    /// A hop with the info field that the step takes for it.
-    pub fn hop_in_step(&self, index: usize) -> Option<(Info, Hop)> {
-        let segments = self.segments();
-        let segment = segments.iter().rev().find(|segment| segment.first_hop <= index)?;
-        Some((self.info_in_step(segment.place)?, self.hop(index)?))
+    /// The current hop or the one behind it, with its index and the info field that the step takes for it: the current
+    /// one, and behind a segment change the next.
+    pub fn hop_in_step(&self, index: usize) -> Option<(usize, Info, Hop)> {
+        let moved = index.checked_sub(self.curr_hf().into())?;
+        let info = self.own_info(usize::from(self.curr_inf()) + moved)?;
+        Some((index, info, self.hop(index)?))
     }
 
     pub fn segments(&self) -> Vec<Segment> {
@@ -103,10 +107,11 @@ impl<'a> Header<'a> {
             .enumerate()
             .filter(|&(_, length)| length != 0)
         {
-            let info = segments.len();
+            let before = segments.last().map(|segment: &Segment| segment.place);
             segments.push(Segment {
                 place,
-                info,
+                info: segments.len(),
+                reached: before.map_or(place, |before| before + 1),
                 first_hop,
                 hops,
             });

@@ -32,7 +32,8 @@ pub fn segment_words(info: &Info) -> String {
 
 pub fn json(index: usize, info: Option<&Info>, hop: &Hop) -> Json {
     let [into, out] = info.map_or([None; 2], |info| hop.travel(info.cons_dir()).map(Some));
-    let [ingress_alert, egress_alert] = hop.alerts(info.is_none_or(Info::cons_dir));
+    let alerts = info.map(|info| hop.alerts(info.cons_dir()).map(Json::Flag));
+    let [ingress_alert, egress_alert] = alerts.unwrap_or([Json::Null, Json::Null]);
     let number = |number: Option<u32>| number.map_or(Json::Null, Json::number);
     let day = |time: Option<u32>| time.map_or(Json::Null, |time| Json::text(date(time)));
     let (ends, timestamp) = (info.and_then(|info| hop.ends(info)), info.map(Info::timestamp));
@@ -45,8 +46,8 @@ pub fn json(index: usize, info: Option<&Info>, hop: &Hop) -> Json {
         ("ends_date", day(ends)),
         ("timestamp", number(timestamp)),
         ("timestamp_date", day(timestamp)),
-        ("ingress_alert", Json::Flag(ingress_alert)),
-        ("egress_alert", Json::Flag(egress_alert)),
+        ("ingress_alert", ingress_alert),
+        ("egress_alert", egress_alert),
         ("reserved_flags", Json::text(format!("{:02x}", hop.reserved_flags()))),
         ("mac", Json::text(to_hex(&hop.mac()))),
     ])

@@ -25,7 +25,8 @@ pub fn lines<'a>(text: &'a str, of: &'a str) -> impl Iterator<Item = Line<'a>> {
 }
 
 /// The words that lines of both text forms start with.
-const FIRST: [&str; 16] = [
+const FIRST: [&str; 17] = [
+    "behind",
     "station",
     "arrival",
     "key",

@@ -8,6 +8,11 @@ use crate::output::shortened;
 pub struct Mistake(pub String);
 
 impl Mistake {
+    /// A sentence may quote what it is about, which may be long.
+    pub fn new(sentence: impl AsRef<str>) -> Mistake {
+        Mistake(shortened(sentence.as_ref()))
+    }
+
     /// The members of its JSON object.
     pub fn json(&self, command: Option<&'static str>) -> Vec<(&'static str, Json)> {
         vec![
@@ -21,7 +26,6 @@ impl Mistake {
 
 pub type Checked<T> = Result<T, Mistake>;
 
-/// A mistake. A sentence may quote what it is about, which may be long.
 pub fn mistake<T>(sentence: impl AsRef<str>) -> Checked<T> {
-    Err(Mistake(shortened(sentence.as_ref())))
+    Err(Mistake::new(sentence))
 }

@@ -1,26 +1,37 @@
 //! The name that somebody may have meant.
 
-/// The known name that takes the fewest changed letters, if they are few.
+/// The known name that takes the fewest slips, if they are few. The dashes of an option do not count.
 pub fn nearest<'a>(word: &str, known: impl Iterator<Item = &'a str>) -> Option<&'a str> {
-    let most = if word.len() < 4 { 1 } else { 2 };
-    let near = known.map(|name| (distance(word, name), name));
-    near.min().filter(|&(changes, _)| changes <= most).map(|(_, name)| name)
+    let letters = |name: &str| -> Vec<char> { name.trim_start_matches('-').chars().collect() };
+    let word = letters(word);
+    let most = match word.len() {
+        0 | 1 => return None,
+        2..=5 => 1,
+        _ => 2,
+    };
+    let near = known.map(|name| (slips(&word, &letters(name)), name));
+    near.min().filter(|&(slips, _)| slips <= most).map(|(_, name)| name)
 }
 
-/// How many letters have to be put in, taken out or changed.
-fn distance(from: &str, to: &str) -> usize {
-    let to: Vec<char> = to.chars().collect();
-    let mut row: Vec<usize> = (0..=to.len()).collect();
-    for (at, letter) in from.chars().enumerate() {
-        let mut before = at;
-        row[0] = at + 1;
-        for (place, &other) in to.iter().enumerate() {
-            let changed = before + usize::from(letter != other);
-            before = row[place + 1];
-            row[place + 1] = changed.min(before + 1).min(row[place] + 1);
+/// How many letters have to be put in, taken out, changed or exchanged with the next.
+fn slips(from: &[char], to: &[char]) -> usize {
+    let mut rows = vec![vec![0; to.len() + 1]; from.len() + 1];
+    for at in 0..=from.len() {
+        for place in 0..=to.len() {
+            rows[at][place] = match (at, place) {
+                (0, count) | (count, 0) => count,
+                _ => {
+                    let changed = rows[at - 1][place - 1] + usize::from(from[at - 1] != to[place - 1]);
+                    changed.min(rows[at - 1][place] + 1).min(rows[at][place - 1] + 1)
+                }
+            };
+            let is_exchanged = at > 1 && place > 1 && from[at - 1] == to[place - 2] && from[at - 2] == to[place - 1];
+            if is_exchanged {
+                rows[at][place] = rows[at][place].min(rows[at - 2][place - 2] + 1);
+            }
         }
     }
-    row[to.len()]
+    rows[from.len()][to.len()]
 }
 
 #[cfg(test)]
@@ -29,15 +40,28 @@ mod tests {
 
     #[test]
     fn a_name_with_a_slip_is_found() {
-        let known = ["journey", "plan", "show", "sign", "-o"];
+        let known = [
+            "journey",
+            "plan",
+            "show",
+            "sign",
+            "-o",
+            "--raw",
+            "--hex",
+            "--json",
+            "--earliest",
+        ];
         for (word, meant) in [
             ("jurney", Some("journey")),
             ("shwo", Some("show")),
             ("plans", Some("plan")),
-            ("-0", Some("-o")),
             ("journeys", Some("journey")),
+            ("-json", Some("--json")),
+            ("--earlyest", Some("--earliest")),
+            ("--now", None),
+            ("--key", None),
+            ("-p", None),
             ("", None),
-            ("x", None),
             ("expire", None),
         ] {
             assert_eq!(nearest(word, known.into_iter()), meant, "{word}");
@@ -45,16 +69,18 @@ mod tests {
     }
 
     #[test]
-    fn letters_are_counted() {
-        for (from, to, changes) in [
+    fn slips_are_counted() {
+        for (from, to, count) in [
             ("", "", 0),
             ("", "ab", 2),
-            ("ab", "", 2),
             ("kitten", "sitting", 3),
             ("ü", "u", 1),
+            ("shwo", "show", 1),
+            ("abcd", "badc", 2),
         ] {
-            assert_eq!(distance(from, to), changes, "{from} {to}");
-            assert_eq!(distance(to, from), changes, "{to} {from}");
+            let [from, to] = [from, to].map(|word| word.chars().collect::<Vec<_>>());
+            assert_eq!(slips(&from, &to), count, "{from:?} {to:?}");
+            assert_eq!(slips(&to, &from), count, "{to:?} {from:?}");
         }
     }
 }

@@ -25,7 +25,9 @@ pub fn complain(text: &str) {
 pub fn printable(text: &str) -> String {
     let mut line = String::new();
     for letter in text.chars() {
-        match letter.is_control() {
+        // Marks that turn the direction of writing are no control characters by their class.
+        let turns = matches!(letter, '\u{200e}' | '\u{200f}' | '\u{202a}'..='\u{202e}' | '\u{2066}'..='\u{2069}');
+        match letter.is_control() || turns {
             true => line.extend(letter.escape_default()),
             false => line.push(letter),
         }
@@ -51,26 +53,26 @@ const CLEAR: &str = "\r\x1b[K";
 
 /// Prints a long list. On a terminal a line at the bottom says how far it has come, ten times a second at most.
 pub struct Lines {
-    of: usize,
+    total: usize,
     is_terminal: bool,
     /// Whether the list goes to the terminal too, where that line would stand in the middle of it.
     shares_screen: bool,
     drawn: Option<Instant>,
+    is_shown: bool,
     /// What is to be printed when the line is drawn the next time.
     held: String,
-    has_reader: bool,
 }
 
 impl Lines {
-    pub fn of(of: usize) -> Lines {
+    pub fn of(total: usize) -> Lines {
         let is_terminal = io::stderr().is_terminal();
         Lines {
-            of,
+            total,
             is_terminal,
             shares_screen: is_terminal && io::stdout().is_terminal(),
             drawn: None,
+            is_shown: false,
             held: String::new(),
-            has_reader: true,
         }
     }
 
@@ -83,27 +85,33 @@ impl Lines {
             self.release()?;
         }
         if is_due {
-            complain(&format!("{CLEAR}{done} of {}", self.of));
-            self.drawn = Some(Instant::now());
+            complain(&format!("{CLEAR}{done} of {}", self.total));
+            (self.drawn, self.is_shown) = (Some(Instant::now()), true);
         }
         Ok(())
     }
 
     /// Takes the line at the bottom away, and prints what is still held.
     pub fn finish(mut self) -> Checked<()> {
-        if self.drawn.is_some() {
-            complain(CLEAR);
-        }
+        self.clear();
         self.release()
     }
 
     fn release(&mut self) -> Checked<()> {
-        if self.shares_screen && self.drawn.is_some() {
+        if self.shares_screen {
+            self.clear();
+        }
+        let printed = print(&std::mem::take(&mut self.held));
+        if printed.is_err() {
+            self.clear();
+        }
+        printed.map(|_| ())
+    }
+
+    fn clear(&mut self) {
+        if std::mem::take(&mut self.is_shown) {
             complain(CLEAR);
         }
-        let held = std::mem::take(&mut self.held);
-        self.has_reader = self.has_reader && print(&held)?;
-        Ok(())
     }
 }
 
@@ -113,6 +121,7 @@ mod tests {
 
     #[test]
     fn a_text_of_others_stays_in_its_line() {
+        assert_eq!(printable("\u{202e}x"), "\\u{202e}x");
         assert_eq!(printable("a\rb\n\u{1b}[2Kc\td é"), "a\\rb\\n\\u{1b}[2Kc\\td é");
         assert_eq!(shortened(&"é".repeat(1_000)), "é".repeat(1_000));
         let long = shortened(&format!("{}{}", "a".repeat(9_000), "z".repeat(300)));

@@ -84,7 +84,7 @@ fn alerts(header: Header<'_>) -> Vec<String> {
 /// The hops' interfaces in the direction of travel, segment by segment.
 fn ways_in(header: Header<'_>) -> String {
     let segments = header.segments().into_iter().map(|segment| {
-        let Some(info) = header.info_in_step(segment.place) else {
+        let Some(info) = header.own_info(segment.reached) else {
             return format!("(segment {} has no info field)", segment.place);
         };
         let hops = (segment.first_hop..).take(segment.hops);
@@ -175,13 +175,16 @@ pub fn not_asked(header: Header<'_>, stations: &[Station]) -> Vec<String> {
 /// By which interface each station but the last is left, and whether in construction direction. A segment's last hop has
 /// its station with the next one's first.
 fn leaving(header: Header<'_>) -> Vec<(u16, bool)> {
-    let segments = header.segments();
-    let hops = segments
-        .iter()
-        .flat_map(|segment| (segment.first_hop..).take(segment.hops - 1));
-    let hops = hops.map_while(|index| header.hop_in_step(index));
-    hops.map(|(info, hop)| (hop.travel(info.cons_dir())[1], info.cons_dir()))
-        .collect()
+    let mut leaving = Vec::new();
+    for segment in header.segments() {
+        let Some(info) = header.own_info(segment.reached) else {
+            break;
+        };
+        let hops = (segment.first_hop..).take(segment.hops - 1);
+        let hops = hops.map_while(|index| header.hop(index));
+        leaving.extend(hops.map(|hop| (hop.travel(info.cons_dir())[1], info.cons_dir())));
+    }
+    leaving
 }
 
 /// The kind of an interface that a station lists, and whether it is up.
@@ -228,11 +231,12 @@ fn odd_direction(at: usize, from: &Station, out: u16, cons_dir: bool) -> Option<
 fn open_hops(header: Header<'_>) -> Vec<String> {
     let mut open = Vec::new();
     for segment in header.segments() {
+        let Some(info) = header.own_info(segment.reached) else {
+            break;
+        };
         let last = segment.first_hop + segment.hops - 1;
         for index in segment.first_hop..=last {
-            let Some((info, hop)) = header.hop_in_step(index) else {
-                break;
-            };
+            let Some(hop) = header.hop(index) else { break };
             let [into, out] = hop.travel(info.cons_dir());
             if into == 0 && index != segment.first_hop {
                 open.push(format!(

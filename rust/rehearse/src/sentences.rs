@@ -5,7 +5,7 @@ use crate::json::Json;
 
 /// A question of the scope document that was answered no.
 pub struct Question {
-    /// The scope document's words, where they stand alone.
+    /// The scope document's words, or what they refer to.
     pub asked: &'static str,
     /// What a no means.
     pub no: &'static str,
@@ -61,8 +61,8 @@ const QUESTIONS: [Question; 25] = [
     question(
         "Interface 0, or travel ingress 0, or both equal?",
         "The packet came in by another interface than the hop names.",
-        "Look at the order of hops and stations, and whether `in` and `out` are exchanged; correct the hop and sign again, or \
-         correct the interface that the packet arrives by.",
+        "Look at the order of hops and stations (in a step at `--station`), and whether `in` and `out` are exchanged; correct \
+         the hop and sign again, or correct the interface that the packet arrives by.",
     ),
     question(
         "Timestamp at most now?",
@@ -78,7 +78,7 @@ const QUESTIONS: [Question; 25] = [
     question(
         "MAC right, or MACs ignored?",
         "The hop's MAC is not the one that the key gives for its fields and the SegID.",
-        "Compare key and interface with those of the station, and take the path as the station before it forwarded it; if \
+        "Compare key and interface (or `--station`) with the station that the path has come to, and take the path as the station before it forwarded it; if \
          that is so, sign it at its start (`curr_hf 0`, hops without `mac`) and walk it again from the first station.",
     ),
     question(
@@ -223,6 +223,13 @@ const MAC_AT_EGRESS: Question = question(
      (`curr_hf 0`, hops without `mac`) and walk it again from the first station.",
 );
 
+const MAC_BEHIND_GAP: Question = question(
+    "MAC right, or MACs ignored?",
+    "The hop's MAC is not the one that the key gives, and an empty segment stands before a used one: the step may take another \
+     info field than the one that was signed with.",
+    "Leave no empty segment before a used one, and sign again.",
+);
+
 const MAC_IN_JOURNEY: Question = question(
     "MAC right, or MACs ignored?",
     "The hop's MAC is not the one that the station's key gives for its fields and the SegID.",
@@ -248,6 +255,7 @@ pub fn of_call(call: Call, number: u16, values: &[(&'static str, Json)], left: &
     // At a segment change the path has moved on from the hop that is named.
     let is_current = value("hop_index") == Some(&Json::Number(curr_hf));
     let is_next = value("index") == Some(&Json::Number(curr_hf + 1));
+    let is_at = |segment: &Segment| segment.first_hop as u64 == curr_hf;
     let starts_later =
         |segment: &Segment| segment.info > 0 && value("hop_index") == Some(&Json::number(segment.first_hop));
     match (number, call) {
@@ -257,12 +265,20 @@ pub fn of_call(call: Call, number: u16, values: &[(&'static str, Json)], left: &
         (5, _) if is_next => Some(&LAST_SEGMENT_OF_ONE),
         (7, _) if header.has_gap() => Some(&EMPTY_SEGMENT),
         (9, _) if header.segments().iter().any(starts_later) => Some(&FIRST_OF_SEGMENT),
+        (12, _) if header.has_gap() => Some(&MAC_BEHIND_GAP),
         (12, Call::Egress) => Some(&MAC_AT_EGRESS),
         (12, Call::Journey) => Some(&MAC_IN_JOURNEY),
         (14, _) if is_zero => Some(&NO_INGRESS),
         (15, _) if is_current => Some(if is_zero { &NO_EGRESS } else { &EGRESS_LISTED }),
         (15, _) if is_zero => Some(&NO_NEXT_EGRESS),
-        (18, Call::Step | Call::Journey) => Some(&SEGMENT_OF_ONE),
+        (18, _)
+            if header
+                .segments()
+                .iter()
+                .any(|segment| segment.hops == 1 && is_at(segment)) =>
+        {
+            Some(&SEGMENT_OF_ONE)
+        }
         _ => of_number(number),
     }
 }
@@ -273,12 +289,13 @@ pub fn of_number(number: u16) -> Option<&'static Question> {
 }
 
 /// The questions beside the 25, by number.
-const OTHERS: [(u16, &Question); 12] = [
+const OTHERS: [(u16, &Question); 13] = [
     (5, &NO_HOP),
     (5, &ANOTHER_HOP),
     (5, &LAST_SEGMENT_OF_ONE),
     (7, &EMPTY_SEGMENT),
     (9, &FIRST_OF_SEGMENT),
+    (12, &MAC_BEHIND_GAP),
     (12, &MAC_AT_EGRESS),
     (12, &MAC_IN_JOURNEY),
     (14, &NO_INGRESS),
@@ -313,6 +330,13 @@ mod tests {
                 );
             }
         }
+        let is_row = |line: &&str| {
+            line.split(" | ").count() == 4
+                && line
+                    .trim_start_matches("| ")
+                    .starts_with(|letter: char| letter.is_ascii_digit())
+        };
+        assert_eq!(guide.lines().filter(is_row).count(), 25 + OTHERS.len());
         assert!(of_number(0).is_none() && of_number(26).is_none() && of_number(100).is_none());
     }
 }

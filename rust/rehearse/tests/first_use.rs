@@ -48,6 +48,14 @@ fn text_in_other_letters_is_named() {
         assert_eq!(folder.run(&format!("plan --show {name} --raw")).status, 1);
     }
     assert!(!folder.0.join("x").exists());
+    // A header with letters in it is no text for all that: its second byte is below 4.
+    let mut path = folder.read("good.path");
+    path[4..].fill(b'a');
+    path[40] = 0xfc;
+    folder.write("letters", path);
+    assert_eq!(folder.run("show letters").status, 0);
+    folder.write("few", [&b"abc"[..], b"\xfc\xfd"].concat());
+    assert_eq!(folder.run("show few").status, 1);
 
     // Other line ends and a byte order mark give the same bytes.
     for (name, text) in [
@@ -142,6 +150,33 @@ fn a_step_takes_its_station_from_a_plan() {
         "egress good.path --plan site.plan --station 0 --interface 1 {AT}"
     ));
     assert_eq!(ran.status, 0);
+    // The arrival stands for --interface, unless that is given; --raw is for the plan too.
+    assert_eq!(
+        folder
+            .run(&format!("ingress a.path --plan site.plan --station 1 {AT}"))
+            .status,
+        0
+    );
+    let ran = folder.run(&format!("step a.path --plan site.plan --station 1 --interface 0 {AT}"));
+    assert!(ran.out.starts_with("refused, number 12: "), "{}", ran.out);
+    let ran = folder.run(&format!("step good.path --plan plan.txt --station 0 --raw {AT}"));
+    assert!(
+        ran.status == 2 && ran.err.contains("plan.txt has 0 stations"),
+        "{ran:?}"
+    );
+    let ran = folder.run(&format!("step good.path --plan good.path --station 0 {AT}"));
+    assert!(
+        ran.status == 2 && ran.err.contains("good.path is a path by its bytes: name a plan"),
+        "{ran:?}"
+    );
+    folder.write("cut.plan", &folder.read("site.plan")[..224]);
+    let ran = folder.run(&format!("step good.path --plan cut.plan --station 0 {AT}"));
+    assert!(
+        ran.err
+            .contains("turns this plan down for every path: a chain of interface records leads to record 7"),
+        "{}",
+        ran.err
+    );
     // A plan that fits no path is named: what is read of it may not be what was meant.
     folder.write("bad.txt", folder.text("plan.txt").replace("arrival 31", "arrival 0"));
     let ran = folder.run(&format!("step good.path --plan bad.txt --station 0 {AT}"));
@@ -210,6 +245,12 @@ fn a_path_that_nobody_takes_is_not_signed_in_silence() {
         ran.err.lines().next().unwrap(),
         "rehearse: small.txt, line 10: 20261116 is 1970-08-23T12:05:16Z: a number is seconds since 1970"
     );
+    assert_eq!(ran.err.matches("a number is seconds since 1970").count(), 2);
+    folder.write("nobody", "# no station\n");
+    assert!(!folder
+        .run("sign good.txt --plan nobody -o x.path")
+        .err
+        .contains("had no effect"));
     folder.write(
         "kept.txt",
         good.replace("in 21 out 22 lasts 6h", "in 21 out 22 lasts 6h mac 0123456789ab"),
@@ -357,12 +398,35 @@ fn words_that_are_almost_right_are_named() {
     let twelve = folder.run("help 12").out;
     assert_eq!(
         twelve.matches("question 12  MAC right, or MACs ignored? No. ").count(),
-        3
+        4
     );
     assert_eq!(folder.run("help 1").out.lines().count(), 2);
     for number in ["0", "26", "-1", "+1"] {
         let ran = folder.run(&format!("help {number}"));
         assert_eq!(ran.status, 2, "{number}");
+    }
+    for word in "station arrival key interface".split(' ') {
+        folder.write("text", format!("station\n{}\n", word.to_uppercase()));
+        assert!(
+            folder
+                .run("plan text -o x")
+                .err
+                .contains(&format!("line 2: write `{word}` in small letters")),
+            "{word}"
+        );
+    }
+    for word in
+        "path curr_inf curr_hf segment cons_dir peering seg_id beta timestamp reserved reserved_flags hop behind"
+            .split(' ')
+    {
+        folder.write("text", format!("segment\n{}\n", word.to_uppercase()));
+        assert!(
+            folder
+                .run("sign text -o x")
+                .err
+                .contains(&format!("line 2: write `{word}` in small letters")),
+            "{word}"
+        );
     }
     for (command, text, said) in [
         (
@@ -464,6 +528,9 @@ fn the_words_of_a_call_are_asked_before_anything_is_read() {
         "sign good.txt --plan -".into(),
         "sign - --plan site.plan --raw --hex -o x".into(),
         "journey - site.plan".into(),
+        format!("journey - - {READINGS}"),
+        "sign - --plan - -o x".into(),
+        format!("step good.path --table - --key zz --interface 0 {AT}"),
         "show - --raw --hex".into(),
     ] {
         let mut child = Command::new(PROGRAM)
@@ -520,6 +587,8 @@ fn half_a_key_is_no_key() {
     assert!(step("half").err.contains("half holds 8 bytes and no key"));
     assert!(step("odd").err.contains("odd number"));
     assert_eq!(step("whole").status, 0);
+    folder.write("marked", "\u{feff}30a1f2c4b5d697e8091a2b3c4d5e6f70\n");
+    assert_eq!(step("marked").status, 0);
 }
 
 /// Names and texts of others are quoted in one line of a screen's length, and can't move the cursor.
@@ -537,6 +606,13 @@ fn what_is_quoted_is_short_and_plain() {
     let ran = folder.run(&format!("journey --batch list {READINGS}"));
     assert_eq!(ran.out.matches("there is a control character in this line").count(), 2);
     assert!(!ran.out.contains(['\r', '\u{1b}']), "{}", ran.out);
+    folder.write("list", format!("{} site.plan\n", "n".repeat(5_000)));
+    assert!(folder.run(&format!("journey --batch list {READINGS}")).out.len() < 3_000);
+    assert!(folder.call(&["c".repeat(20_000).as_str()], b"").err.len() < 1_200);
+    assert!(!folder
+        .call(&["demo", "--write", "d\u{1b}[2K"], b"")
+        .out
+        .contains('\u{1b}'));
     for name in ["a\nb", "a\u{1b}[2Kb"] {
         let ran = folder.call(&["show", name], b"");
         assert_eq!(ran.err.lines().count(), 1, "{ran:?}");
@@ -668,7 +744,20 @@ fn a_file_that_is_written_stays_what_it_is() {
     assert_eq!(folder.read("real"), folder.read("site.plan"));
     let rights = std::fs::metadata(folder.0.join("real")).unwrap().permissions().mode();
     assert_eq!(rights & 0o777, 0o640);
-    assert_eq!(folder.run("plan plan.txt -o /dev/null").status, 0);
+    // A link to nothing makes what it names, and a pipe is written as it is.
+    symlink("new", folder.0.join("dangling")).unwrap();
+    assert_eq!(folder.run("plan plan.txt -o dangling").status, 0);
+    assert_eq!(folder.read("new"), folder.read("site.plan"));
+    let call = format!("mkfifo pipe; cat pipe >got & {PROGRAM} plan plan.txt -o pipe; wait");
+    let ran = Command::new("sh")
+        .args(["-c", &call])
+        .current_dir(&folder.0)
+        .output()
+        .unwrap();
+    assert!(ran.status.success(), "{ran:?}");
+    assert_eq!(folder.read("got"), folder.read("site.plan"));
+    let long = "n".repeat(250);
+    assert_eq!(folder.run(&format!("plan plan.txt -o {long}")).status, 0);
 }
 
 #[test]

@@ -104,3 +104,54 @@ fn progress_is_shown_on_a_terminal_and_taken_away() {
     }
     assert!(shown.contains("3000 journeys: 3000 passed"), "{shown:?}");
 }
+
+/// What is said beside an answer stands in its line: the first of it, and how much more there is.
+#[test]
+fn a_line_says_what_to_look_at() {
+    let folder = Folder::with_site();
+    let plan = folder.text("plan.txt");
+    let down = plan.replace("interface 21 parent up", "interface 21 parent down");
+    folder.write("down", &down);
+    folder.write(
+        "downs",
+        down.replace("interface 31 parent up", "interface 31 parent down"),
+    );
+    folder.write("cut", &folder.read("good.path")[..70]);
+    folder.write("list", "good.path down\ngood.path downs\ncut site.plan\n");
+    let first = "not asked: station 2 lists interface 21, which the packet arrives by, as down";
+    assert_eq!(
+        folder.run(&format!("journey --batch list {READINGS}")).out,
+        format!(
+            "passed      good.path down: {first}\n\
+             passed      good.path downs: {first} (and 1 more)\n\
+             refused 3   cut site.plan: the path is shorter than its segment lengths say\n\
+             3 journeys: 2 passed, 0 not passed, 1 refused (1 by 3), 0 not read\n"
+        )
+    );
+}
+
+/// Long lists of sentences are cut, and a plan of 63 stations is listed whole.
+#[test]
+fn what_is_seen_is_cut_where_nobody_reads_on() {
+    let folder = Folder::with_site();
+    let station = |arrival: usize| format!("station\narrival {arrival}\nkey 000102030405060708090a0b0c0d0e0f\n");
+    folder.write("63", (0..63).map(station).collect::<String>());
+    let ran = folder.run(&format!("journey good.path 63 {READINGS}"));
+    assert!(ran.out.contains(", 61, 62\n"), "{}", ran.out);
+    folder.write("70", (0..70).map(station).collect::<String>());
+    let ran = folder.run(&format!("journey good.path 70 {READINGS}"));
+    assert!(ran.out.contains(", 61, 62, and 7 more\n"), "{}", ran.out);
+    folder.write("zeros", (0..40).map(|_| station(0)).collect::<String>());
+    let ran = folder.run(&format!("journey good.path zeros {READINGS}"));
+    assert_eq!(ran.out.matches(", not the first, arrives by 0").count(), 20);
+    assert!(ran.out.contains("                 and 19 more\n"), "{}", ran.out);
+    let hops = "hop in 1 out 1 lasts 6h alert ingress\n".repeat(63);
+    folder.write(
+        "alerts",
+        format!("segment\ncons_dir yes\ntimestamp 2026-11-16T06:00:00Z\n{hops}"),
+    );
+    folder.run("sign alerts --plan 63 -o path");
+    let ran = folder.run(&format!("journey path 63 {READINGS}"));
+    assert_eq!(ran.out.matches(" has an alert\n").count(), 20);
+    assert!(ran.out.contains("                 and 43 more\n"), "{}", ran.out);
+}

@@ -123,6 +123,56 @@ fn the_step_s_own_egress_says_another_hop() {
     assert_eq!(answer.text("what_to_do"), "Give each segment at least two hops.");
 }
 
+/// Over an empty segment in the middle the step takes the next info field as it changes, and does not find one behind that.
+#[test]
+fn a_gap_in_the_middle_is_read_as_the_step_reads_it() {
+    let folder = Folder::with_site();
+    let good = folder
+        .text("good.txt")
+        .replace("# Down from", "segment none\n# Down from");
+    folder.write("gap.txt", good.replace("out 12 lasts 6h", "out 12 lasts 1m"));
+    assert_eq!(folder.run("sign gap.txt --plan site.plan -o gap.path").status, 0);
+    let shown = folder.run("show gap.path");
+    assert!(shown
+        .out
+        .contains("segment 2: info field 1 (bytes 12 to 19), hops 2 to 4\n    gap          an empty segment"));
+    let step = |station: u8, now: &str| {
+        format!("step at-{station} --plan site.plan --station {station} --now 2026-11-16T{now}Z")
+    };
+    folder.write("at-0", folder.read("gap.path"));
+    folder.run(&format!("{} --write at-1", step(0, "06:05:00")));
+    let ran = folder.run(&step(1, "06:08:00"));
+    assert!(ran.out.starts_with("refused, number 11: hop 2: "), "{}", ran.out);
+    assert!(
+        ran.out
+            .contains("    hop 2        in 0, out 12; ends 2026-11-16T06:05:37Z (ExpTime 0)"),
+        "{}",
+        ran.out
+    );
+    let ran = folder.run(&step(1, "06:05:00"));
+    assert!(ran.out.starts_with("refused, number 7: "), "{}", ran.out);
+    assert!(
+        ran.out
+            .contains("what to do   Leave no empty segment before a used one"),
+        "{}",
+        ran.out
+    );
+    // Number 12 behind a gap: signing again does not help.
+    folder.write(
+        "first.txt",
+        good.replace("segment none\n", "")
+            .replacen("segment\n", "segment none\nsegment\n", 1)
+            .replace("curr_inf 0", "curr_inf 1"),
+    );
+    folder.run("sign first.txt --plan site.plan -o first");
+    let ran = folder.run(&format!("step first {HALL_A} --interface 0 {AT}"));
+    assert!(
+        ran.out.contains("number 12: ") && ran.out.contains("what to do   Leave no empty segment"),
+        "{}",
+        ran.out
+    );
+}
+
 /// What a no means, and what to do, where the whole step and a journey come to a question otherwise than a half alone.
 #[test]
 fn the_advice_fits_the_call() {
@@ -183,10 +233,30 @@ fn the_advice_fits_the_call() {
         let answer = parse(&folder.run(&format!("journey {path} {plan} {READINGS} --json")).out);
         let stop = answer.get("stops").unwrap();
         assert_eq!(stop.number("number"), Some(number), "{path}");
-        assert!(
-            stop.text("what_to_do").ends_with(advice) || stop.text("what_to_do").contains(advice),
-            "{path}"
-        );
+        assert!(stop.text("what_to_do").contains(advice), "{path}: {stop:?}");
+        // The station's own step says the same, and so does no step for another number.
+        if number != 12 {
+            let station = stop.number("station").unwrap();
+            for before in 0..station {
+                let from = if before == 0 {
+                    path.to_string()
+                } else {
+                    format!("at-{before}")
+                };
+                let write = format!(
+                    "step {from} --plan {plan} --station {before} {AT} --write at-{}",
+                    before + 1
+                );
+                assert_eq!(folder.run(&write).status, 0, "{write}");
+            }
+            let from = if station == 0 {
+                path.to_string()
+            } else {
+                format!("at-{station}")
+            };
+            let ran = folder.run(&format!("step {from} --plan {plan} --station {station} {AT}"));
+            assert!(ran.out.contains(stop.text("what_to_do")), "{path}: {}", ran.out);
+        }
         let ran = folder.run(&format!("journey {path} {plan} {READINGS}"));
         assert!(ran.out.contains(stop.text("what_to_do")), "{path}: {}", ran.out);
     }
@@ -214,6 +284,27 @@ fn the_advice_fits_the_call() {
     assert_eq!(
         folder.run(&format!("egress inside {core} --interface 12 {AT}")).status,
         0
+    );
+    let wrong = "--table 11:child:up --key 00000000000000000000000000000000";
+    let answer = parse(
+        &folder
+            .run(&format!("ingress at-core {wrong} --interface 11 {AT} --json"))
+            .out,
+    );
+    assert!(answer
+        .text("what_to_do")
+        .contains("as the station before it forwarded it"));
+    // Egress in the segment of one hop that ingress has changed to.
+    folder.run(&format!("step one-middle {HALL_A} --interface 0 {AT} --write at-core"));
+    folder.run(&format!("ingress at-core {core} --interface 11 {AT} --write inside"));
+    let answer = parse(
+        &folder
+            .run(&format!("egress inside {core} --interface 12 {AT} --json"))
+            .out,
+    );
+    assert_eq!(
+        (answer.number("number"), answer.text("what_to_do")),
+        (Some(18), "Give each segment at least two hops.")
     );
 }
 
@@ -251,6 +342,28 @@ fn a_refusal_shows_its_hops() {
         )),
         [0]
     );
+    // Not at a change it is one, and it is shown as it was given: ingress has cleared the alert by then.
+    assert_eq!(
+        hops(&format!(
+            "step good.path --table 2:parent:up --key 30a1f2c4b5d697e8091a2b3c4d5e6f70 --interface 0 {AT} --json"
+        )),
+        [0]
+    );
+    folder.write(
+        "asked.txt",
+        good.replace("in 11 out 0 lasts 6h", "in 11 out 0 lasts 6h alert ingress"),
+    );
+    folder.run("sign asked.txt --plan site.plan -o asked");
+    folder.run(&format!("step asked {HALL_A} --interface 0 {AT} --write core"));
+    let ran = folder.run(&format!("step core {} {AT}", core.replace(",12:child:up", "")));
+    assert!(
+        ran.out.contains("number 15: ")
+            && ran
+                .out
+                .contains("    hop 1        in 11, out 0; ends 2026-11-16T12:00:00Z (ExpTime 63); ingress alert\n"),
+        "{}",
+        ran.out
+    );
     assert_eq!(
         hops(&format!("step good.path {HALL_A} --interface 0 {AT} --json")),
         Vec::<u64>::new()
@@ -262,14 +375,9 @@ fn a_refusal_shows_its_hops() {
 fn show_asks_what_the_header_alone_decides() {
     let folder = Folder::with_site();
     let good = folder.read("good.path");
-    for (name, at, byte, number) in [
-        ("past", 0, 0x45, 5),
-        ("inf", 0, 0x40, 7),
-        ("one", 1, 0, 0),
-        ("whole", 0, 0x44, 0),
-    ] {
+    for (name, byte, number) in [("past", 0x45, 5), ("inf", 0x40, 7), ("start", 0, 0), ("end", 0x44, 0)] {
         let mut path = good.clone();
-        path[at] = byte;
+        path[0] = byte;
         folder.write(name, path);
         let ran = folder.run(&format!("show {name}"));
         assert_eq!(ran.status, i32::from(number != 0), "{name}");
@@ -288,6 +396,36 @@ fn show_asks_what_the_header_alone_decides() {
     assert!(folder.run("show single.hex").out.starts_with("refused, number 6: "));
     folder.write("gap.hex", format!("00000082{}", "00".repeat(64)));
     assert!(folder.run("show gap.hex").out.starts_with("refused, number 7: "));
+    // The scope document's case h, and a header without a hop.
+    folder.write("no-info.hex", format!("82002002{}", "00".repeat(64)));
+    let ran = folder.run("show no-info.hex");
+    assert!(ran.out.starts_with("refused, number 8: "), "{}", ran.out);
+    folder.write("none.hex", "00000000");
+    for call in [
+        "show none.hex".to_string(),
+        format!("egress none.hex {HALL_A} --interface 0 {AT}"),
+        format!("ingress none.hex {HALL_A} --interface 0 {AT}"),
+    ] {
+        let ran = folder.run(&call);
+        assert!(
+            ran.out.contains("number 5: ") && ran.out.contains("No. The path has no hop."),
+            "{call}: {}",
+            ran.out
+        );
+        assert!(!ran.out.contains("expires"), "{}", ran.out);
+    }
+    folder.write(
+        "text",
+        "segment none\nsegment\ncons_dir yes\ntimestamp 1970-01-02\nhop in 0 out 1 lasts 6h\n",
+    );
+    assert!(!folder
+        .run("sign text --plan site.plan -o first")
+        .out
+        .contains("expires"));
+    assert!(folder
+        .run("show first")
+        .out
+        .contains("segment 1: no info field, hop 0\n"));
 }
 
 /// Behind an empty segment, hops are shown with the info field that the step takes for them.
@@ -309,8 +447,8 @@ fn a_header_with_a_gap_is_shown_as_the_step_reads_it() {
     for lines in [
         "segment 1: info field 1 (bytes 12 to 19), hops 0 to 1\n    C            set: travelled as constructed\n",
         "    hop 0        in 10, out 20; ends ",
-        "segment 2: no info field, hops 2 to 3\n    gap          a segment before it is empty: the step looks for info \
-         field 2, which is not there\n    hop 2        ConsIngress 12, ConsEgress 22; ExpTime 63; no alert\n",
+        "segment 2: no info field, hops 2 to 3\n    gap          an empty segment stands before it: there the step looks for \
+         info field 2, which is not there\n    hop 2        ConsIngress 12, ConsEgress 22; ExpTime 63; no alert\n",
         "info field 0 (bytes 4 to 11): of no segment\n    C            clear: travelled against construction\n",
     ] {
         assert!(ran.out.contains(lines), "{lines}\n{}", ran.out);
@@ -330,6 +468,16 @@ fn a_header_with_a_gap_is_shown_as_the_step_reads_it() {
             .contains("the path's hops come in by 10, 11 | (segment 2 has no info field)\n"),
         "{}",
         ran.out
+    );
+    let step =
+        "step gap.hex --table 20:child:up --key 00000000000000000000000000000000 --interface 0 --now 1500 --json";
+    let answer = parse(&folder.run(step).out);
+    let Some(Value::List(hops)) = answer.get("named_hops") else {
+        panic!()
+    };
+    assert_eq!(
+        (answer.number("number"), hops[0].number("timestamp")),
+        (Some(10), Some(2000))
     );
     // A field that is cut off has the same names as one that is there.
     folder.write("cut.hex", "00002000 0000");

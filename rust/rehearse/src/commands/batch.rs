@@ -4,7 +4,7 @@ use super::journey::{between, check, Between, Checking};
 use super::names;
 use crate::answers::Answer;
 use crate::arguments::Arguments;
-use crate::files::{shown, Files};
+use crate::files::{shown, without_mark, Files};
 use crate::json::Json;
 use crate::mistake::{mistake, Checked};
 use crate::output::{printable, shortened, Lines};
@@ -63,8 +63,7 @@ pub fn run(arguments: &Arguments, files: &Files) -> Checked<Report> {
 
 /// The list's lines that name a journey, or should.
 fn entries<'a>(list: &'a [u8]) -> impl Iterator<Item = Entry<'a>> {
-    let list = list.strip_prefix("\u{feff}".as_bytes()).unwrap_or(list);
-    let lines = list.split(|&byte| byte == b'\n').enumerate();
+    let lines = without_mark(list).split(|&byte| byte == b'\n').enumerate();
     lines.filter_map(|(at, line)| {
         let said = std::str::from_utf8(line).map(without_comment);
         let is_comment = said == Ok("") || said.is_err() && line.trim_ascii_start().starts_with(b"#");

@@ -5,6 +5,7 @@ use crate::arguments::{Arguments, Form};
 use crate::files::{write_whole, Files};
 use crate::json::Json;
 use crate::mistake::{mistake, Checked};
+use crate::output::printable;
 use crate::report::Report;
 use std::ffi::{OsStr, OsString};
 use std::path::Path;
@@ -169,7 +170,11 @@ fn write(name: &OsStr) -> Checked<Report> {
         write_whole(&name, content).or_else(|error| cannot_write(&name, &error))?;
     }
     let names: Vec<&str> = files.iter().map(|&(name, _)| name).collect();
-    let text = format!("{} written to {}\n", names.join(", "), folder.display());
+    let text = format!(
+        "{} written to {}\n",
+        names.join(", "),
+        printable(&name.to_string_lossy())
+    );
     let mut report = Report::done("demo", "written", text);
     report.member("files", Json::List(names.into_iter().map(Json::text).collect()));
     Ok(report)

@@ -69,7 +69,7 @@ pub fn run(words: &[OsString], files: &Files) -> Said {
     let as_json = options.any(|word| word == "--json");
     let Some(first) = words.first() else {
         let sentence = "say what to do, as `rehearse demo`: see `rehearse --help`";
-        return wrong(None, &Mistake(sentence.into()), as_json);
+        return wrong(None, &Mistake::new(sentence), as_json);
     };
     let name = match first.to_str() {
         Some("--help" | "-h") => return said(HELP),
@@ -86,7 +86,7 @@ pub fn run(words: &[OsString], files: &Files) -> Said {
         let meant = nearest(&word, COMMANDS.iter().map(|command| command.form.command));
         let meant = meant.map_or(String::new(), |name| format!(", but {name} is"));
         let sentence = format!("`{word}` is not a command of rehearse{meant}: see `rehearse --help`");
-        return wrong(None, &Mistake(sentence), as_json);
+        return wrong(None, &Mistake::new(sentence), as_json);
     };
     let words = &words[1..];
     let mut options = words.iter().take_while(|word| *word != "--");

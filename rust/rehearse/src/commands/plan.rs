@@ -5,10 +5,10 @@ use crate::answers;
 use crate::arguments::{Arguments, Form};
 use crate::files::{shown, Files};
 use crate::hex;
-use crate::itinerary;
+use crate::itinerary::{self, Read};
 use crate::json::Json;
 use crate::mistake::Checked;
-use crate::plan::{self, Station};
+use crate::plan;
 use crate::report::{counted, Report};
 use crate::seen;
 use standard_path::JourneyError;
@@ -41,7 +41,7 @@ fn write(arguments: &Arguments, files: &Files) -> Checked<Report> {
     no_spelling(arguments)?;
     let stations = plan::from_text(&files.read_text(name)?, &shown(name))?;
     let bytes = itinerary::to_bytes(&stations)?;
-    let refused = turned_down(&bytes, &stations);
+    let refused = turned_down(&bytes, &itinerary::read(&bytes));
     let mut report = match &refused {
         None => Report::done("plan", "written", String::new()),
         Some(_) => refusal(),
@@ -60,20 +60,19 @@ fn write(arguments: &Arguments, files: &Files) -> Checked<Report> {
 }
 
 /// A sentence on a plan that fits no path, with what is seen in it.
-pub fn turned_down(plan: &[u8], stations: &[Station]) -> Option<String> {
-    if itinerary::fits_some_path(plan, stations.len()) {
+pub fn turned_down(plan: &[u8], read: &Read) -> Option<String> {
+    let count = read.stations.len();
+    if itinerary::fits_some_path(plan, count) {
         return None;
     }
     let mut odd = Vec::new();
-    match stations.len() {
+    match count {
         0 => odd.push("it has no station".into()),
         1..=63 => {}
-        count => odd.push(format!("it has {count} stations, and no path has more than 63")),
+        _ => odd.push(format!("it has {count} stations, and no path has more than 63")),
     }
-    odd.extend(seen::odd_stations(stations));
-    if odd.is_empty() {
-        odd.push("see number 23 in docs/GUIDE.md".into());
-    }
+    odd.extend(seen::odd_stations(&read.stations));
+    odd.extend(read.remarks.iter().take(1).cloned());
     let odd = odd.join("; ");
     Some(format!("question 23 turns this plan down for every path: {odd}"))
 }
@@ -89,7 +88,7 @@ fn show(arguments: &Arguments, files: &Files, name: &OsStr) -> Checked<Report> {
     }
     let bytes = plan::read(files, name, spelling(arguments)?)?;
     let read = itinerary::read(&bytes);
-    let refused = turned_down(&bytes, &read.stations);
+    let refused = turned_down(&bytes, &read);
     let fits = refused.is_none();
     let mut remarks: Vec<String> = refused.into_iter().chain(read.remarks).collect();
     if seen::path_as_plan(&bytes) {

@@ -35,7 +35,7 @@ pub fn run(arguments: &Arguments, files: &Files) -> Checked<Report> {
         .iter()
         .map(|segment| show_segment(header, segment, &mut report))
         .collect();
-    for index in (0..header.infos()).filter(|index| used.iter().all(|segment| segment.place != *index)) {
+    for index in (0..header.infos()).filter(|index| used.iter().all(|segment| segment.reached != *index)) {
         segments.push(show_unused(header, index, &mut report));
     }
     report.member("segments", Json::List(segments));
@@ -110,30 +110,41 @@ fn meta(header: Header<'_>, report: &mut Report) {
 /// The info field that the step takes for a segment, and its hops.
 fn show_segment(header: Header<'_>, segment: &Segment, report: &mut Report) -> Json {
     let &Segment {
-        place, first_hop, hops, ..
+        place,
+        first_hop,
+        hops,
+        reached,
+        ..
     } = segment;
-    let is_there = place < header.infos();
+    let is_there = reached < header.infos();
     let hop_words = match hops {
         1 => format!("hop {first_hop}"),
         _ => format!("hops {first_hop} to {}", first_hop + hops - 1),
     };
     let info_words = match is_there {
-        true => info_words(header, place),
+        true => info_words(header, reached),
         false => "no info field".into(),
     };
     report.text += &format!("segment {place}: {info_words}, {hop_words}\n");
-    if !is_there {
+    if place >= header.infos() {
         report.line(
             "gap",
-            format!("a segment before it is empty: the step looks for info field {place}, which is not there"),
+            format!(
+                "an empty segment stands before it: there the step looks for info field {place}, which is not there"
+            ),
         );
     }
-    let info = header.info_in_step(place);
+    let info = header.own_info(reached);
     if is_there {
         show_info(info.as_ref(), report);
     }
+    let shown = show_hops(header, segment, info.as_ref(), report);
+    segment_json(Some(place), is_there.then_some(reached), info.as_ref(), shown)
+}
+
+fn show_hops(header: Header<'_>, segment: &Segment, info: Option<&Info>, report: &mut Report) -> Vec<Json> {
     let mut shown = Vec::new();
-    for index in first_hop..first_hop + hops {
+    for index in (segment.first_hop..).take(segment.hops) {
         let Some(hop) = header.hop(index) else {
             report.line(
                 &format!("hop {index}"),
@@ -141,9 +152,9 @@ fn show_segment(header: Header<'_>, segment: &Segment, report: &mut Report) -> J
             );
             break;
         };
-        shown.push(show_hop(header, index, info.as_ref(), &hop, report));
+        shown.push(show_hop(header, index, info, &hop, report));
     }
-    segment_json(Some(place), is_there.then_some(place), info.as_ref(), shown)
+    shown
 }
 
 /// An info field that the step takes for no segment.

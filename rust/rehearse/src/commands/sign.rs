@@ -8,16 +8,13 @@ use crate::dates;
 use crate::files::{shown, Files};
 use crate::header::Header;
 use crate::hex;
-use crate::itinerary;
+use crate::itinerary::{self, Read};
 use crate::json::Json;
 use crate::mistake::{mistake, Checked};
 use crate::path_text::{self, MOST_BEHIND};
 use crate::report::{counted, Report};
 use crate::signing::{self, Signed};
-use crate::{
-    path_words,
-    plan::{self, Station},
-};
+use crate::{path_words, plan};
 use standard_path::{expiration, HeaderError};
 use std::ffi::OsStr;
 
@@ -56,17 +53,18 @@ fn write(arguments: &Arguments, files: &Files) -> Checked<Report> {
         None => None,
         Some(name) => Some(plan::read(files, name, spelling)?),
     };
-    let stations = plan.as_deref().map(|plan| itinerary::read(plan).stations);
-    let keys: Vec<_> = stations.iter().flatten().map(|station| station.key).collect();
+    let read = plan.as_deref().map(itinerary::read);
+    let stations = read.iter().flat_map(|read| &read.stations);
+    let keys: Vec<_> = stations.map(|station| station.key).collect();
     let signed = signing::sign(&text, &keys)?;
     let mut report = told(&signed);
     report
         .notes
         .extend(text.segments.into_iter().flatten().filter_map(|segment| segment.note));
-    if let (Some(plan), Some(stations)) = (&plan, &stations) {
-        report.notes.extend(about_plan(&signed, plan, stations));
+    if let (Some(plan), Some(read)) = (&plan, &read) {
+        report.notes.extend(about_plan(&signed, plan, read));
     }
-    if let Some(note) = without_key(&signed, stations.map(|stations| stations.len())) {
+    if let Some(note) = without_key(&signed, read.map(|read| read.stations.len())) {
         report.notes.push(note);
         report.status = 1;
     }
@@ -123,18 +121,17 @@ fn made(header: Header<'_>, signed: &Signed) -> String {
     )
 }
 
-/// A note on info fields that are written in another order than they are looked for.
+/// A note on info fields that are written without gaps and looked for with them.
 fn gap(header: Header<'_>) -> Option<String> {
     let note =
-        "a segment stands behind an empty one: the step looks for its info field by its place, and takes another than \
-                the text's, or none";
+        "a segment stands behind an empty one: the step looks for info fields by CurrINF, where another stands or none";
     header.has_gap().then(|| note.into())
 }
 
 /// What is odd about the plan that was given.
-fn about_plan(signed: &Signed, plan: &[u8], stations: &[Station]) -> Vec<String> {
-    let header = Header(&signed.bytes);
-    let mut notes: Vec<String> = turned_down(plan, stations).into_iter().collect();
+fn about_plan(signed: &Signed, plan: &[u8], read: &Read) -> Vec<String> {
+    let (header, stations) = (Header(&signed.bytes), &read.stations);
+    let mut notes: Vec<String> = turned_down(plan, read).into_iter().collect();
     if stations.len() != header.stations() {
         notes.push(format!(
             "the plan has {}, and this path asks for {} (hops - infos + 1)",

@@ -2,13 +2,14 @@
 
 use super::plan::turned_down;
 use crate::arguments::Arguments;
-use crate::files::{shown, Files, Spelling};
+use crate::files::{shown, without_mark, Files, Spelling};
 use crate::hex;
 use crate::interfaces;
 use crate::itinerary;
 use crate::mistake::{mistake, Checked};
 use crate::plan::{self, Station};
 use crate::report::counted;
+use crate::seen::path_as_plan;
 use standard_path::ForwardingKey;
 use std::ffi::OsStr;
 
@@ -44,17 +45,22 @@ impl Named<'_> {
     pub fn read(self, files: &Files, spelling: Spelling, notes: &mut Vec<String>) -> Checked<Station> {
         let (name, place) = match self {
             Named::Written { table, key } => {
+                let key = read_key(files, key)?;
                 return Ok(Station {
                     arrival: 0,
+                    key,
                     interfaces: interfaces::table(files, table)?,
-                    key: read_key(files, key)?,
-                })
+                });
             }
             Named::InPlan { plan, place } => (plan, place),
         };
         let bytes = plan::read(files, name, spelling)?;
-        let mut stations = itinerary::read(&bytes).stations;
-        notes.extend(turned_down(&bytes, &stations));
+        if path_as_plan(&bytes) {
+            return mistake(format!("--plan: {} is a path by its bytes: name a plan", shown(name)));
+        }
+        let read = itinerary::read(&bytes);
+        notes.extend(turned_down(&bytes, &read));
+        let mut stations = read.stations;
         match place < stations.len() {
             true => Ok(stations.swap_remove(place)),
             false => mistake(format!(
@@ -77,7 +83,7 @@ fn read_key(files: &Files, given: &str) -> Checked<ForwardingKey> {
     };
     let bytes = files.read(OsStr::new(name))?;
     // Sixteen bytes that are hex digits all of them are half a key.
-    let text = bytes.strip_prefix("\u{feff}".as_bytes()).unwrap_or(&bytes);
+    let text = without_mark(&bytes);
     let bytes = match hex::is_hex(text) {
         true => hex::from_hex(text, name)?,
         false => bytes,

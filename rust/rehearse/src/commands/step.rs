@@ -21,7 +21,7 @@ const fn form(command: &'static str) -> Form {
         values: &[
             (
                 "--table",
-                "the station's interfaces: a file, or as 1:child:up,3:parent:up",
+                "the station's interfaces: a file, or as 1:child:up,3:parent:up; --plan and --station stand for it and --key",
             ),
             ("--key", "the station's key: 32 hex digits, or @ and a file"),
             ("--plan", "a plan, whose station is taken in place of --table and --key"),
