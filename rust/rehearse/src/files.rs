@@ -149,8 +149,12 @@ pub fn write_whole(name: &Path, content: &[u8]) -> io::Result<()> {
     }
     let beside = place.with_file_name(format!(".rehearse-{}.part", std::process::id()));
     let mut options = fs::OpenOptions::new();
-    let Ok(mut file) = options.write(true).create_new(true).open(&beside) else {
-        return fs::write(name, content);
+    let mut file = match options.write(true).create_new(true).open(&beside) {
+        Ok(file) => file,
+        Err(error) if error.kind() == ErrorKind::PermissionDenied && about.is_some() => {
+            return fs::write(name, content)
+        }
+        Err(error) => return Err(error),
     };
     let kept = about.map_or(Ok(()), |about| keep_rights(&beside, &about));
     let written = kept.and_then(|()| file.write_all(content));

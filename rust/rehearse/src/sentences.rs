@@ -1,6 +1,6 @@
 //! What each number from 1 to 25 says, and what to do about it. docs/GUIDE.md has the same words in a table.
 
-use crate::header::{Header, Segment};
+use crate::header::Header;
 use crate::json::Json;
 
 /// A question of the scope document that was answered no.
@@ -255,30 +255,26 @@ pub fn of_call(call: Call, number: u16, values: &[(&'static str, Json)], left: &
     // At a segment change the path has moved on from the hop that is named.
     let is_current = value("hop_index") == Some(&Json::Number(curr_hf));
     let is_next = value("index") == Some(&Json::Number(curr_hf + 1));
-    let is_at = |segment: &Segment| segment.first_hop as u64 == curr_hf;
-    let starts_later =
-        |segment: &Segment| segment.info > 0 && value("hop_index") == Some(&Json::number(segment.first_hop));
+    let segments = header.segments();
+    let mut later = segments.iter().skip(1).map(|segment| Json::number(segment.first_hop));
+    let starts_segment = later.any(|first| value("hop_index") == Some(&first));
+    let is_alone = segments
+        .iter()
+        .any(|segment| segment.hops == 1 && segment.first_hop as u64 == curr_hf);
     match (number, call) {
         (5, _) if header.hops() == 0 => Some(&NO_HOP),
         (5, Call::Egress) if is_next => Some(&ANOTHER_HOP),
         // Ingress delivers at the path's last hop, so that the whole step came here by a segment change.
         (5, _) if is_next => Some(&LAST_SEGMENT_OF_ONE),
         (7, _) if header.has_gap() => Some(&EMPTY_SEGMENT),
-        (9, _) if header.segments().iter().any(starts_later) => Some(&FIRST_OF_SEGMENT),
+        (9, _) if starts_segment => Some(&FIRST_OF_SEGMENT),
         (12, _) if header.has_gap() => Some(&MAC_BEHIND_GAP),
         (12, Call::Egress) => Some(&MAC_AT_EGRESS),
         (12, Call::Journey) => Some(&MAC_IN_JOURNEY),
         (14, _) if is_zero => Some(&NO_INGRESS),
         (15, _) if is_current => Some(if is_zero { &NO_EGRESS } else { &EGRESS_LISTED }),
         (15, _) if is_zero => Some(&NO_NEXT_EGRESS),
-        (18, _)
-            if header
-                .segments()
-                .iter()
-                .any(|segment| segment.hops == 1 && is_at(segment)) =>
-        {
-            Some(&SEGMENT_OF_ONE)
-        }
+        (18, _) if is_alone => Some(&SEGMENT_OF_ONE),
         _ => of_number(number),
     }
 }
