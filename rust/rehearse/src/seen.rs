@@ -1,6 +1,6 @@
 //! What is seen in a path and a plan, to look at beside the library's answer. Nothing here is asked for a verdict.
 
-use crate::header::Header;
+use crate::header::{Header, Segment};
 use crate::interfaces::KINDS;
 use crate::itinerary::{self, Read};
 use crate::plan::Station;
@@ -46,7 +46,10 @@ pub fn beside(error: JourneyError, path: &[u8], (plan, read): (&[u8], &Read), re
     }
     match error {
         JourneyError::UnfitItinerary => seen.extend(in_plan(header, read, readings)),
-        JourneyError::NotAtStart => seen.push(format!("CurrINF {}, CurrHF {}", header.curr_inf(), header.curr_hf())),
+        JourneyError::NotAtStart => {
+            seen.push(format!("CurrINF {}, CurrHF {}", header.curr_inf(), header.curr_hf()));
+            seen.extend(gap(header));
+        }
         JourneyError::AlertSet => seen.extend(alerts(header)),
         JourneyError::MetaTooShort | JourneyError::DataTooShort | JourneyError::TooManyHops => {}
     }
@@ -65,6 +68,11 @@ fn in_plan(header: Header<'_>, read: &Read, [earliest, latest]: [u32; 2]) -> Vec
     }
     seen.extend(odd_stations(stations));
     seen.extend(read.remarks.clone());
+    seen.extend(gap(header));
+    if peering(header).next().is_some() {
+        let note = "P is set: a path over a peering link has a station for each of its two hops, which this check does not know";
+        seen.push(note.into());
+    }
     if stations.len() == asked {
         seen.push(format!("{count}, as the path asks for"));
     }
@@ -72,6 +80,18 @@ fn in_plan(header: Header<'_>, read: &Read, [earliest, latest]: [u32; 2]) -> Vec
     seen.push(format!("arrivals {}", listed(arrivals)));
     seen.push(format!("the path's hops come in by {}", ways_in(header)));
     seen
+}
+
+fn gap(header: Header<'_>) -> Option<String> {
+    header
+        .has_gap()
+        .then(|| "an empty segment stands before a used one".into())
+}
+
+/// The info fields with P set.
+fn peering(header: Header<'_>) -> impl Iterator<Item = usize> + '_ {
+    let infos = (0..header.infos()).filter_map(move |index| Some((index, header.info(index)?)));
+    infos.filter(|(_, info)| info.peering()).map(|(index, _)| index)
 }
 
 /// The hops with an alert.
@@ -161,7 +181,8 @@ pub fn not_asked(header: Header<'_>, stations: &[Station]) -> Vec<String> {
             Some((_, true)) => None,
         }
     });
-    let mut seen: Vec<String> = arrivals.chain(open_hops(header)).collect();
+    let mut seen: Vec<String> = arrivals.chain(open_hops(header)).chain(no_way_back(header)).collect();
+    seen.extend(peering(header).map(|index| format!("segment {index} has P set, and no answer depends on it")));
     let leaving = leaving(header);
     for (at, pair) in stations.windows(2).enumerate() {
         if let Some(&(out, cons_dir)) = leaving.get(at) {
@@ -225,6 +246,22 @@ fn odd_direction(at: usize, from: &Station, out: u16, cons_dir: bool) -> Option<
     Some(format!(
         "station {at} leaves by interface {out} ({kind}) in a segment with `cons_dir {word}`"
     ))
+}
+
+/// Hops whose `out` at a segment change is neither 0 nor where the packet leaves: turned around, question 9 asks for it.
+fn no_way_back(header: Header<'_>) -> Vec<String> {
+    let out = |segment: &Segment, index: usize| {
+        let (info, hop) = (header.own_info(segment.reached)?, header.hop(index)?);
+        Some(hop.travel(info.cons_dir())[1])
+    };
+    let segments = header.segments();
+    let changes = segments.windows(2).filter_map(|pair| {
+        let last = pair[0].first_hop + pair[0].hops - 1;
+        let (end, leaving) = (out(&pair[0], last)?, out(&pair[1], pair[1].first_hop)?);
+        let note = || format!("hop {last} has `out {end}` at a segment change: a reply is turned down there (9)");
+        (end != 0 && end != leaving).then(note)
+    });
+    changes.collect()
 }
 
 /// Hops that have a 0 although their segment goes on there.

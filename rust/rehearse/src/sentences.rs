@@ -137,14 +137,14 @@ const QUESTIONS: [Question; 25] = [
         "Itinerary sound, each table too, station count = hops − infos + 1, first arrival 0, later ones not, earliest at most latest?",
         "The plan is not sound, does not fit the path, or the readings are out of order.",
         "Add the hop that the path lacks, or correct the plan: one station for each hop, but one for the two hops of a segment \
-         change, arrival 0 at the first station only, interfaces in ascending order, at most 63 stations; and no earliest \
-         reading after the latest.",
+         change, arrival 0 at the first station only, interfaces in ascending order, each number once, with states 0 to 7, at \
+         most 63 stations; and no earliest reading after the latest.",
     ),
     question(
         "CurrHF and CurrINF 0?",
         "The path does not stand at its start.",
         "Take the path as its source sends it, CurrHF and CurrINF 0; for the way back, turn it around where it was delivered \
-         (`rehearse reverse`). Setting them to 0 will not do for a path on its way: its SegIDs have moved.",
+         (`rehearse reverse`). Setting them to 0 does not take back what the stations on its way have done to its SegIDs.",
     ),
     question(
         "No alert bit in a hop?",

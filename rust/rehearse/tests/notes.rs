@@ -95,12 +95,13 @@ fn what_is_odd_about_a_header_is_said() {
 
     folder.write("empty.txt", "# nothing yet\n");
     let (status, said) = notes(&folder, "sign empty.txt -o empty");
+    assert_eq!(status, 1);
     assert_eq!(
-        (status, &said[..]),
-        (
-            0,
-            &["the text has no hop: the header is the 4 bytes of a meta word".to_string()][..]
-        )
+        said,
+        [
+            "the library turns this header down: refused, number 5: the path has no hop 0",
+            "the text has no hop: the header is the 4 bytes of a meta word"
+        ]
     );
 
     // A plan whose second station says arrival 0, one that is too short, and one that is not needed.

@@ -88,7 +88,7 @@ fn a_number_with_two_questions_says_the_right_one() {
             format!("journey core site.plan {READINGS}"),
             24,
             "CurrHF and CurrINF 0?",
-            "its SegIDs have moved",
+            "have done to its SegIDs",
         ),
     ] {
         let answer = parse(&folder.run(&format!("{call} --json")).out);
@@ -603,6 +603,19 @@ fn what_no_question_asks_for_stands_beside_a_pass() {
     folder.write("back.txt", good.replace("in 21 out 22", "in 21 out 21"));
     assert_eq!(folder.run("sign back.txt --plan back -o back.path").status, 0);
     folder.write("kinds", plan.replace("interface 31 parent up", "interface 31 child up"));
+    for (name, text) in [
+        ("reply", good.replace("in 11 out 0", "in 11 out 14")),
+        ("same", good.replace("in 11 out 0", "in 11 out 12")),
+        ("peers", good.replacen("cons_dir no", "cons_dir no\n    peering yes", 1)),
+    ] {
+        folder.write(&format!("{name}.txt"), text);
+        assert_eq!(
+            folder
+                .run(&format!("sign {name}.txt --plan site.plan -o {name}.path"))
+                .status,
+            0
+        );
+    }
     folder.write("up.txt", good.replace("cons_dir no", "cons_dir yes"));
     assert_eq!(folder.run("sign up.txt --plan plan.txt -o up.path").status, 0);
     assert_eq!(folder.run("sign open.txt --plan zero -o open.path").status, 0);
@@ -628,6 +641,13 @@ fn what_no_question_asks_for_stands_beside_a_pass() {
             "kinds",
             &["station 2 leaves by interface 22 (child), and station 3 arrives by 31 (child): the kinds do not go together"],
         ),
+        (
+            "reply.path",
+            "site.plan",
+            &["hop 1 has `out 14` at a segment change: a reply is turned down there (9)"],
+        ),
+        ("same.path", "site.plan", &[]),
+        ("peers.path", "site.plan", &["segment 0 has P set, and no answer depends on it"]),
         (
             "up.path",
             "plan.txt",

@@ -107,7 +107,7 @@ fn a_path_s_bytes_come_back_through_its_text() {
         let signed = folder.run("sign text -o again");
         // What the library turns down is said, and so is a path without hops, with a gap, or on its way.
         let status = folder.run("show path --raw").status;
-        assert_eq!(signed.status, if hops == 0 { 0 } else { status }, "{}", shown.out);
+        assert_eq!(signed.status, status, "{}", shown.out);
         assert_eq!(
             signed.err.contains("turns this header down"),
             signed.status == 1,

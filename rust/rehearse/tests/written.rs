@@ -84,7 +84,7 @@ fn a_file_behind_standard_input_is_not_written() {
         .unwrap();
     assert_eq!((output.status.code(), folder.read("plan.txt")), (Some(2), before));
     // A device may be both.
-    assert_eq!(folder.run("sign /dev/null -o /dev/null").status, 0);
+    assert_eq!(folder.run("sign /dev/null -o /dev/null").status, 1);
 }
 
 #[test]

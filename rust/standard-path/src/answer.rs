@@ -646,7 +646,7 @@ pub enum JourneyError {
     /// The itinerary or a table of it is unsound, it has not one station for each AS of the path, the first station's
     /// arrival interface is not 0 or a later one's is, or the earliest reading is later than the latest.
     UnfitItinerary,
-    /// The path does not stand at its first hop.
+    /// The path does not stand at its first hop and info field.
     NotAtStart,
     /// A hop field has an SCMP alert.
     AlertSet,
@@ -675,7 +675,7 @@ impl fmt::Display for JourneyError {
             JourneyError::UnfitItinerary => {
                 "the itinerary is unsound, or does not fit the path or the two clock readings"
             }
-            JourneyError::NotAtStart => "the path does not stand at its first hop",
+            JourneyError::NotAtStart => "the path does not stand at its first hop and info field",
             JourneyError::AlertSet => "a hop field of the path has an SCMP alert",
         })
     }

@@ -230,6 +230,14 @@ fn made_file(arguments: &Arguments) -> Checked<Option<&OsStr>> {
     }
 }
 
+/// What is said of it in JSON.
+fn made_word(file: Option<&OsStr>) -> &'static str {
+    match file {
+        Some(_) => "written",
+        None => "made",
+    }
+}
+
 fn write_made(file: Option<&OsStr>, files: &Files, bytes: &[u8], hex: &str, report: &mut Report) -> Checked<()> {
     match file {
         None => {}

@@ -1,6 +1,6 @@
 //! `rehearse plan`: a site plan from its text form into bytes, and back.
 
-use super::{made_file, no_spelling, spelling, write_made};
+use super::{made_file, made_word, no_spelling, spelling, write_made};
 use crate::answers;
 use crate::arguments::{Arguments, Form};
 use crate::files::{shown, Files};
@@ -43,7 +43,7 @@ fn write(arguments: &Arguments, files: &Files) -> Checked<Report> {
     let bytes = itinerary::to_bytes(&stations)?;
     let refused = turned_down(&bytes, &itinerary::read(&bytes));
     let mut report = match &refused {
-        None => Report::done("plan", "written", String::new()),
+        None => Report::done("plan", made_word(file), String::new()),
         Some(_) => refusal(),
     };
     report.text = format!(

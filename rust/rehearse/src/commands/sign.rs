@@ -1,7 +1,7 @@
 //! `rehearse sign`: a path header from its text form, its MACs worked out, and back.
 
 use super::plan::turned_down;
-use super::{made_file, no_spelling, not_a_path, path_lines, spelling, write_made};
+use super::{made_file, made_word, no_spelling, not_a_path, path_lines, spelling, write_made};
 use crate::answers::{self, Answer};
 use crate::arguments::{Arguments, Form};
 use crate::dates;
@@ -57,7 +57,7 @@ fn write(arguments: &Arguments, files: &Files) -> Checked<Report> {
     let stations = read.iter().flat_map(|read| &read.stations);
     let keys: Vec<_> = stations.map(|station| station.key).collect();
     let signed = signing::sign(&text, &keys)?;
-    let mut report = told(&signed);
+    let mut report = told(&signed, made_word(file));
     report
         .notes
         .extend(text.segments.into_iter().flatten().filter_map(|segment| segment.note));
@@ -73,13 +73,12 @@ fn write(arguments: &Arguments, files: &Files) -> Checked<Report> {
 }
 
 /// What was made.
-fn told(signed: &Signed) -> Report {
+fn told(signed: &Signed, word: &'static str) -> Report {
     let header = Header(&signed.bytes);
     let ends = expiration(&signed.bytes);
-    // A path without a hop is what its text says, and noted as such.
-    let refused = answers::of_header(&signed.bytes).filter(|_| header.hops() > 0);
+    let refused = answers::of_header(&signed.bytes);
     let mut report = match &refused {
-        None => Report::done("sign", "written", String::new()),
+        None => Report::done("sign", word, String::new()),
         Some(answer) => Report::of("sign", answer),
     };
     report.text = made(header, signed);
@@ -164,11 +163,9 @@ fn without_key(signed: &Signed, stations: Option<usize>) -> Option<String> {
 }
 
 fn show(arguments: &Arguments, files: &Files, name: &OsStr) -> Checked<Report> {
-    for option in ["-o", "--plan"] {
+    for (option, instead) in [("-o", "write `> TEXT` behind the call"), ("--plan", "leave it out")] {
         if arguments.value(option).is_some() {
-            return arguments.wrong(format!(
-                "--show prints the text, and takes no {option}: write `> TEXT` behind the call"
-            ));
+            return arguments.wrong(format!("--show prints the text, and takes no {option}: {instead}"));
         }
     }
     let path = files.read_path(name, spelling(arguments)?)?;
