@@ -20,6 +20,7 @@ mod kinds;
 mod lines;
 mod mistake;
 mod nearest;
+mod not_asked;
 mod output;
 mod path_text;
 mod path_words;

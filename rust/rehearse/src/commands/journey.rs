@@ -10,6 +10,7 @@ use crate::header::Header;
 use crate::itinerary::{self, Read};
 use crate::json::Json;
 use crate::mistake::Checked;
+use crate::not_asked;
 use crate::plan;
 use crate::report::{counted, Report};
 use crate::seen;
@@ -80,7 +81,7 @@ pub fn check(files: &Files, path: &OsStr, plan: &OsStr, between: &Between) -> Ch
     asked(&path, &read, readings, &mut report);
     let why = match verdict {
         Ok(Verdict::Passed) => {
-            let seen = seen::not_asked(Header(&path), &read.stations);
+            let seen = not_asked::beside_pass(Header(&path), &read.stations);
             let more = match seen.len() {
                 0 | 1 => String::new(),
                 count => format!(" (and {} more)", count - 1),
