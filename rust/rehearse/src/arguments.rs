@@ -48,12 +48,11 @@ impl Arguments {
                 _ => read.places.push(word.clone()),
             }
         }
-        let files = read.places.iter().chain(
-            read.values
-                .iter()
-                .filter(|(name, _)| *name != "-o")
-                .map(|(_, value)| value),
-        );
+        let read_values = read
+            .values
+            .iter()
+            .filter(|(name, _)| !matches!(*name, "-o" | "--write"));
+        let files = read.places.iter().chain(read_values.map(|(_, value)| value));
         if files.filter(|name| *name == "-").count() > 1 {
             return mistake("standard input is named twice: only one of the files can be -");
         }

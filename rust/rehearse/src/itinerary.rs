@@ -3,7 +3,7 @@
 use crate::interfaces::Interface;
 use crate::mistake::{mistake, Checked};
 use crate::plan::Station;
-use crate::seen;
+use crate::report::sentences;
 use standard_path::{check_journey, JourneyError, ScionNetworkTime};
 use std::collections::HashSet;
 
@@ -75,7 +75,7 @@ pub fn read(bytes: &[u8]) -> Read {
     // Tables may share records, which are looked at once for each.
     let mut known = HashSet::new();
     remarks.retain(|remark| known.insert(remark.clone()));
-    let remarks = seen::first(remarks);
+    let remarks = sentences(remarks);
     Read { stations, remarks }
 }
 

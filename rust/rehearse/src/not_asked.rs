@@ -3,7 +3,8 @@
 use crate::header::{Header, Segment};
 use crate::interfaces::KINDS;
 use crate::plan::Station;
-use crate::seen::{first, peering};
+use crate::report::sentences;
+use crate::seen::peering;
 
 /// The sentences, for a path that passed.
 pub fn beside_pass(header: Header<'_>, stations: &[Station]) -> Vec<String> {
@@ -28,7 +29,7 @@ pub fn beside_pass(header: Header<'_>, stations: &[Station]) -> Vec<String> {
             seen.extend(odd.or_else(|| odd_direction(at, &pair[0], out, cons_dir)));
         }
     }
-    first(seen)
+    sentences(seen)
 }
 
 /// By which interface each station but the last is left, and whether in construction direction. A segment's last hop has

@@ -155,3 +155,18 @@ fn changes(before: &[u8], after: &[u8]) -> Vec<Change> {
 pub fn counted(count: usize, of: &str) -> String {
     format!("{count} {of}{}", if count == 1 { "" } else { "s" })
 }
+
+/// The first of a long list, and how many more there are.
+pub fn cut(mut list: Vec<String>, most: usize) -> Vec<String> {
+    let more = list.len().saturating_sub(most);
+    if more > 0 {
+        list.truncate(most);
+        list.push(format!("and {more} more"));
+    }
+    list
+}
+
+/// Sentences of one kind, twenty at most: whoever reads them starts with the first.
+pub fn sentences(list: Vec<String>) -> Vec<String> {
+    cut(list, 20)
+}

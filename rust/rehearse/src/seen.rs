@@ -3,21 +3,8 @@
 use crate::header::Header;
 use crate::itinerary::{self, Read};
 use crate::plan::Station;
-use crate::report::counted;
+use crate::report::{counted, cut, sentences};
 use standard_path::{expiration, JourneyError};
-
-/// The most sentences of one kind: whoever reads them starts with the first.
-const MOST: usize = 20;
-
-/// The first of a long list of sentences, and how many more there are.
-pub fn first(mut sentences: Vec<String>) -> Vec<String> {
-    let more = sentences.len().saturating_sub(MOST);
-    if more > 0 {
-        sentences.truncate(MOST);
-        sentences.push(format!("and {more} more"));
-    }
-    sentences
-}
 
 /// A path that would do as a plan: the wrong file was named.
 pub fn plan_as_path(path: &[u8]) -> bool {
@@ -95,7 +82,7 @@ pub fn peering(header: Header<'_>) -> impl Iterator<Item = usize> + '_ {
 fn alerts(header: Header<'_>) -> Vec<String> {
     let hops = (0..header.hops()).filter_map(|index| Some((index, header.hop(index)?)));
     let hops = hops.filter(|(_, hop)| hop.alerts(true).contains(&true));
-    first(hops.map(|(index, _)| format!("hop {index} has an alert")).collect())
+    sentences(hops.map(|(index, _)| format!("hop {index} has an alert")).collect())
 }
 
 /// The hops' interfaces in the direction of travel, segment by segment.
@@ -115,15 +102,10 @@ fn ways_in(header: Header<'_>) -> String {
 }
 
 /// A list for reading, cut where no path goes on: it has 63 stations at most.
-fn listed(mut words: Vec<String>) -> String {
-    let more = words.len().saturating_sub(63);
-    if more > 0 {
-        words.truncate(63);
-        words.push(format!("and {more} more"));
-    }
+fn listed(words: Vec<String>) -> String {
     match words.is_empty() {
         true => "none".into(),
-        false => words.join(", "),
+        false => cut(words, 63).join(", "),
     }
 }
 
@@ -137,7 +119,7 @@ pub fn odd_stations(stations: &[Station]) -> Vec<String> {
         };
         arrival.into_iter().chain(odd_table(at, station))
     });
-    first(odd.collect())
+    sentences(odd.collect())
 }
 
 /// The first thing that is odd about a station's table.

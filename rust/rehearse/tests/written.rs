@@ -1,8 +1,10 @@
-//! What is written, and what is not: a file that a call reads is never written, and no option becomes a file's name.
+//! What is written, and what is not: a file that a call reads is never written, nor a text; no option becomes a file's name;
+//! a file is whole.
 
 mod common;
 
 use common::{Folder, PROGRAM};
+use std::io::Write;
 use std::process::Command;
 
 const STEP: &str = "--table table.txt --key @key --interface 0 --now 1794809100";
@@ -129,4 +131,136 @@ fn an_empty_name_is_said() {
         assert_eq!(ran.status, 2, "{words:?}");
         assert!(ran.err.contains("is empty"), "{words:?}: {}", ran.err);
     }
+}
+
+#[test]
+fn a_text_is_not_written_over() {
+    let folder = Folder::with_site();
+    folder.write("marked.txt", format!("\u{feff}{}", folder.text("good.txt")));
+    folder.write("typo.txt", "statoin\n");
+    folder.write("table.txt", "interface 1 child up\n");
+    folder.write("umlauts.txt", "# \u{fc}".repeat(40_000));
+    folder.write("latin.txt", b"# a plan of K\xfchlhalle\nstation\n");
+    for call in [
+        "plan plan.txt -o good.txt",
+        "sign good.txt --plan site.plan -o late.txt",
+        "reverse good.path --write plan.txt",
+        "reverse good.path --write marked.txt",
+        "reverse good.path --write typo.txt",
+        "plan plan.txt -o table.txt",
+        "plan plan.txt -o umlauts.txt",
+        "plan plan.txt -o latin.txt",
+    ] {
+        let before = folder.read(call.split(' ').next_back().unwrap());
+        let ran = folder.run(call);
+        assert!(
+            ran.status == 2 && ran.err.contains("is a text, and writing would lose it"),
+            "{call}: {ran:?}"
+        );
+        assert_eq!(folder.read(call.split(' ').next_back().unwrap()), before);
+    }
+    // Bytes and hex may be written over.
+    for call in [
+        "plan plan.txt -o site.plan",
+        "sign good.txt --plan plan.txt -o x.hex",
+        "sign late.txt --plan plan.txt -o x.hex",
+    ] {
+        assert_eq!(folder.run(call).status, 0, "{call}");
+    }
+}
+
+/// A file is written whole, or what was there stays.
+#[test]
+fn half_a_file_is_never_left() {
+    let folder = Folder::with_site();
+    let mut long = folder.read("good.path");
+    long.resize(8 << 20, 7);
+    folder.write("long", &long);
+    let before: &[u8] = b"\0as it was";
+    folder.write("out", before);
+    let call = format!("ulimit -f 1; trap '' XFSZ; {PROGRAM} reverse long --write out");
+    let ran = Command::new("sh")
+        .args(["-c", &call])
+        .current_dir(&folder.0)
+        .output()
+        .unwrap();
+    assert_eq!(ran.status.code(), Some(2), "{ran:?}");
+    assert_eq!(folder.read("out"), before);
+    let names: Vec<_> = std::fs::read_dir(&folder.0)
+        .unwrap()
+        .map(|entry| entry.unwrap().file_name())
+        .collect();
+    assert!(
+        names.iter().all(|name| !name.to_string_lossy().contains(".part")),
+        "{names:?}"
+    );
+    assert_eq!(folder.run("reverse long --write out").status, 0);
+    assert_eq!(folder.read("out").len(), 8 << 20);
+}
+
+/// A second hard link of what is read gets bytes of its own.
+#[cfg(unix)]
+#[test]
+fn what_is_read_is_not_lost_through_a_hard_link() {
+    let folder = Folder::with_site();
+    let (path, text) = (folder.read("good.path"), folder.read("good.txt"));
+    std::fs::hard_link(folder.0.join("good.path"), folder.0.join("path-link")).unwrap();
+    std::fs::hard_link(folder.0.join("good.txt"), folder.0.join("text-link")).unwrap();
+    assert_eq!(folder.run("reverse good.path --write path-link").status, 0);
+    assert_eq!(folder.run("sign good.txt --plan site.plan -o text-link").status, 2);
+    assert_eq!((folder.read("good.path"), folder.read("good.txt")), (path, text));
+}
+
+/// A link stays a link, and the rights of a file stay.
+#[cfg(unix)]
+#[test]
+fn a_file_that_is_written_stays_what_it_is() {
+    use std::os::unix::fs::{symlink, PermissionsExt};
+    let folder = Folder::with_site();
+    folder.write("real", "");
+    std::fs::set_permissions(folder.0.join("real"), std::fs::Permissions::from_mode(0o640)).unwrap();
+    symlink("real", folder.0.join("link")).unwrap();
+    assert_eq!(folder.run("plan plan.txt -o link").status, 0);
+    assert!(std::fs::symlink_metadata(folder.0.join("link")).unwrap().is_symlink());
+    assert_eq!(folder.read("real"), folder.read("site.plan"));
+    let rights = std::fs::metadata(folder.0.join("real")).unwrap().permissions().mode();
+    assert_eq!(rights & 0o777, 0o640);
+    // A link to nothing makes what it names, and a pipe is written as it is.
+    symlink("new", folder.0.join("dangling")).unwrap();
+    assert_eq!(folder.run("plan plan.txt -o dangling").status, 0);
+    assert_eq!(folder.read("new"), folder.read("site.plan"));
+    let call = format!("mkfifo pipe; cat pipe >got & {PROGRAM} plan plan.txt -o pipe; wait");
+    let ran = Command::new("sh")
+        .args(["-c", &call])
+        .current_dir(&folder.0)
+        .output()
+        .unwrap();
+    assert!(ran.status.success(), "{ran:?}");
+    assert_eq!(folder.read("got"), folder.read("site.plan"));
+    let long = "n".repeat(250);
+    assert_eq!(folder.run(&format!("plan plan.txt -o {long}")).status, 0);
+}
+
+#[test]
+fn the_example_is_written_whole_or_not_at_all() {
+    let folder = Folder::new();
+    for call in [&["demo", "--write="][..], &["demo", "--write", "-"]] {
+        let ran = folder.call(call, b"");
+        assert!(ran.status == 2 && ran.err.contains("--write takes a folder"), "{ran:?}");
+    }
+    for name in ["plan.txt", "late.txt", "site.plan", "late.path"] {
+        let in_the_way = folder.0.join("half").join(name);
+        std::fs::create_dir_all(&in_the_way).unwrap();
+        let ran = folder.run("demo --write half");
+        assert!(
+            ran.status == 2 && ran.err.contains(&format!("half/{name} is there already")),
+            "{ran:?}"
+        );
+        assert_eq!(std::fs::read_dir(folder.0.join("half")).unwrap().count(), 1);
+        std::fs::remove_dir(&in_the_way).unwrap();
+        std::fs::File::create(&in_the_way).unwrap().write_all(b"mine").unwrap();
+        assert_eq!(folder.run("demo --write half").status, 2);
+        std::fs::remove_file(&in_the_way).unwrap();
+    }
+    assert_eq!(std::fs::read_dir(&folder.0).unwrap().count(), 1);
 }

@@ -104,7 +104,8 @@ fn about_number(word: &str) -> Option<Said> {
     let number = word.parse().ok().filter(|_| !word.starts_with('+'))?;
     let mut text = String::new();
     for Question { asked, no, advice } in sentences::all_of(number) {
-        text += &format!("question {number}  {asked} No. {no}\nwhat to do   {advice}\n");
+        text += &format!("{:<12} {asked} No. {no}\n", format!("question {number}"));
+        text += &format!("what to do   {advice}\n");
     }
     (!text.is_empty()).then(|| said(&text))
 }
