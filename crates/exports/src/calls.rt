@@ -20,6 +20,15 @@ ghost use Rattle.itinerary.specs.Layout.{narrow};
 ghost use Rattle.journey.specs.Verdict.{journeyCheck};
 ghost use Rattle.exports.specs.Reply.{stepReply, ingressReply, reversalReply, expirationReply, segmentReply, journeyReply};
 
+// The version of these calls, which each change to one of them or to what it answers raises. The name has it too: a program that
+// asks for it does not link with an archive of another version.
+#[no_mangle]
+pub extern "C" fn scion_step_version_1() -> u32
+    ensures { λ r. ⌜ r ≡ 1 ⌝ }
+{
+    1
+}
+
 // ---- the step
 
 #[no_mangle]
