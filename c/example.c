@@ -4,7 +4,7 @@
 #include <stdio.h>
 #include <string.h>
 
-enum { HOPS = 3, PATH = 4 + 8 + 12 * HOPS };
+enum { HOPS = 3, PATH = SCION_META_BYTES + SCION_INFO_BYTES + SCION_HOP_BYTES * HOPS };
 
 static void put16(uint8_t *at, uint16_t value) {
     at[0] = value >> 8;
@@ -12,7 +12,7 @@ static void put16(uint8_t *at, uint16_t value) {
 }
 
 // One segment in construction direction, timestamp 1000, at its second hop; MACs under one key.
-static void make_path(uint8_t path[PATH], const uint8_t key[16]) {
+static void make_path(uint8_t path[PATH], const uint8_t key[SCION_KEY_BYTES]) {
     static const uint16_t interfaces[HOPS][2] = {{0, 1}, {3, 1}, {3, 0}};
     uint16_t segment_id = 0x1234;
 
@@ -40,11 +40,15 @@ static void show(const char *what, ScionReply reply) {
 }
 
 int main(void) {
-    const uint8_t key[16] = "a forwarding key";
+    const uint8_t key[SCION_KEY_BYTES] = "a forwarding key";
     const uint16_t ids[2] = {1, 3};
-    const uint8_t states[2] = {4 + 2, 4 + 1};
+    const uint8_t states[2] = {SCION_LINK_UP | SCION_LINK_TO_CHILD, SCION_LINK_UP | SCION_LINK_TO_PARENT};
     uint8_t path[PATH];
 
+    if (scion_step_version_1() != SCION_STEP_VERSION) {
+        fprintf(stderr, "example: the archive is not of version %d\n", SCION_STEP_VERSION);
+        return 1;
+    }
     make_path(path, key);
     show("in time", scion_handle_standard_path(ids, 2, states, 2, path, PATH, 3, 1337, key, false));
     make_path(path, key);

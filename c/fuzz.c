@@ -6,7 +6,11 @@
 // hangs on one read there is not the same in both calls. Inputs are random bytes, and paths that would travel, damaged
 // here and there, so that each answer is reached: one that is not, or one that the call never gives, is an error too.
 //
-// Two numbers can be given: the rounds and the seed. The lines printed are, for each call, its answers and their counts.
+// Also what the header allows of pointers: null where the length is 0, and arguments that are only read laid over one
+// another.
+//
+// Two numbers can be given: the rounds and the seed. The lines printed are, for each call, its answers and how often
+// each was given.
 #define _DEFAULT_SOURCE
 #include "scion_step.h"
 
@@ -67,8 +71,8 @@ static void *place(Room *room, const void *bytes, size_t length, bool high) {
     room->length = length;
     memset(room->start, room->around, room->size);
     memcpy(room->at, bytes, length);
-    // Rust passes an empty slice as a small number, its element's alignment. It is no one's to read.
-    return length == 0 && !high ? (uint8_t *)2 : room->at;
+    // An empty argument is no one's to read: null, or as Rust passes an empty slice, its element's alignment.
+    return length != 0 || high ? room->at : one_in(2) ? NULL : (uint8_t *)2;
 }
 
 static bool all_are(const uint8_t *at, size_t length, uint8_t byte) {
@@ -230,6 +234,20 @@ static void draw_table(void) {
     if (one_in(32)) states[draw(MAX_TABLE)] = draw(256);
 }
 
+static size_t ids_start, states_start; // in the key of a shared table
+
+// A table and a key of the same 16 bytes: the numbers 0 to 7, whose bytes are states too.
+static void draw_shared_table(void) {
+    uint16_t numbers[8];
+    for (uint16_t i = 0; i < 8; i++) numbers[i] = i;
+    memcpy(key, numbers, sizeof key);
+    ids_length = states_length = 1 + draw(8);
+    ids_start = draw(9 - (uint32_t)ids_length);
+    states_start = draw(17 - (uint32_t)states_length);
+    memcpy(ids, numbers + ids_start, ids_length * 2);
+    memcpy(states, key + states_start, states_length);
+}
+
 // ---- an itinerary
 
 static const uint8_t *station_key(uint32_t station) {
@@ -334,7 +352,7 @@ static void check_same(const Call *call, ScionReply one, ScionReply other) {
     if (one.number != other.number || one.count != other.count ||
         memcmp(one.values, other.values, sizeof one.values) != 0 || one.scmp_type != other.scmp_type ||
         one.scmp_code != other.scmp_code || one.scmp_pointer != other.scmp_pointer)
-        fail(call->name, "an answer that depends on bytes beyond an argument");
+        fail(call->name, "an answer that depends on bytes beyond an argument, or on where it lies");
 }
 
 // ---- the calls, each made twice
@@ -344,8 +362,10 @@ typedef ScionReply Step(const uint16_t *, size_t, const uint8_t *, size_t, uint8
 
 static void fuzz_step(const Call *call, Step *step) {
     bool is_egress = call == &calls[EGRESS], outside = !is_egress && !one_in(4);
+    bool shared = one_in(8);
     draw_bytes(key, sizeof key);
     draw_table();
+    if (shared) draw_shared_table();
     draw_any_path(outside);
     // Hop fields are good from about 1000 to 1337.
     uint32_t time = one_in(32) ? draw(0xFFFFFFFF) : (one_in(8) ? 990 : one_in(8) ? 1325 : 1002) + draw(20);
@@ -375,6 +395,15 @@ static void fuzz_step(const Call *call, Step *step) {
     check_reply(call, replies[0]);
     check_same(call, replies[0], replies[1]);
     if (replies[0].number <= 4 && memcmp(left, path, path_length) != 0) fail(call->name, "a change by 1 to 4");
+    if (!shared) return;
+    const uint8_t *given = place(&key_room, key, sizeof key, true);
+    uint8_t *given_path = place(&path_room, path, path_length, true);
+    check_same(call, replies[0], step((const uint16_t *)(const void *)given + ids_start, ids_length,
+                                      given + states_start, states_length, given_path, path_length, interface, time,
+                                      given, ignore_macs));
+    check_kept(&key_room, key, call->name);
+    check_around(&path_room, call->name);
+    if (memcmp(left, path_room.at, path_length) != 0) fail(call->name, "bytes left that differ");
 }
 
 static void fuzz_reverse(const Call *call) {
@@ -426,6 +455,14 @@ static void fuzz_macs(void) {
         memcpy(macs[high], mac_room.at, 16);
     }
     if (memcmp(macs[0], macs[1], 16) != 0) fail("scion_aes_cmac", "two MACs of one message");
+    if (path_length >= sizeof key) { // a message that starts with the key
+        memcpy(path, key, sizeof key);
+        const uint8_t *message = place(&path_room, path, path_length, true);
+        scion_aes_cmac(key, message, path_length, macs[0]);
+        scion_aes_cmac(message, message, path_length, macs[1]);
+        check_kept(&path_room, path, "scion_aes_cmac");
+        if (memcmp(macs[0], macs[1], 16) != 0) fail("scion_aes_cmac", "a MAC that depends on where the key lies");
+    }
 
     uint8_t input[16];
     draw_bytes(input, sizeof input);
@@ -444,11 +481,21 @@ static void fuzz_macs(void) {
     }
 }
 
+static uint64_t shared_verdicts[2]; // how many paths that lie in the itinerary did not pass, and did
+
 static void fuzz_journey(const Call *call) {
     ScionReply replies[2];
     draw_journey();
     if (one_in(16) && hops != 0) hop_at(draw(hops))[0] = draw(4);
     damage_journey();
+    // A copy of the path in records that no chain reaches.
+    bool shared = one_in(8) && itinerary_length + path_length + RECORD <= MAX_ITINERARY;
+    size_t path_start = itinerary_length;
+    if (shared) {
+        itinerary_length += (path_length + RECORD - 1) / RECORD * RECORD;
+        memcpy(itinerary + path_start, path, path_length);
+        memset(itinerary + path_start + path_length, 0, itinerary_length - path_start - path_length);
+    }
     uint32_t earliest = one_in(16) ? draw(2000) : 1002 + draw(50);
     uint32_t latest = one_in(16) ? draw(2000) : earliest + draw(50);
     for (int high = 0; high < 2; high++) {
@@ -460,6 +507,48 @@ static void fuzz_journey(const Call *call) {
     }
     check_reply(call, replies[0]);
     check_same(call, replies[0], replies[1]);
+    if (!shared) return;
+    const uint8_t *given = place(&itinerary_room, itinerary, itinerary_length, true);
+    check_same(call, replies[0],
+               scion_check_journey(given + path_start, path_length, given, itinerary_length, earliest, latest));
+    check_kept(&itinerary_room, itinerary, call->name);
+    shared_verdicts[replies[0].number == SCION_PASSED]++;
+}
+
+// ---- null
+
+static void check_number(const Call *call, ScionReply reply, uint16_t number) {
+    if (reply.number != number) fail(call->name, "null with length 0 is not taken as nothing");
+}
+
+// Null with length 0, for each argument and for all.
+static void call_with_null(void) {
+    static Step *const steps[] = {scion_handle_standard_path, scion_standard_path_ingress, scion_standard_path_egress};
+    lengths[0] = 3;
+    lengths[1] = lengths[2] = 0;
+    draw_header();
+    path[0] = 3;
+    ids_length = states_length = 2;
+    ids[1] = ids[0] + 1;
+    states[0] = states[1] = 6;
+    for (int i = STEP; i <= EGRESS; i++) {
+        check_number(&calls[i], steps[i](NULL, 0, states, 2, path, path_length, 0, 0, key, false), SCION_UNSOUND_TABLE);
+        check_number(&calls[i], steps[i](ids, 2, NULL, 0, path, path_length, 0, 0, key, false), SCION_UNSOUND_TABLE);
+        check_number(&calls[i], steps[i](NULL, 0, NULL, 0, path, path_length, 0, 0, key, false),
+                     SCION_HOP_OUT_OF_BOUNDS);
+        check_number(&calls[i], steps[i](ids, 2, states, 2, NULL, 0, 0, 0, key, false), SCION_META_TOO_SHORT);
+        check_number(&calls[i], steps[i](NULL, 0, NULL, 0, NULL, 0, 0, 0, key, false), SCION_META_TOO_SHORT);
+    }
+    check_number(&calls[REVERSE], scion_try_reverse(NULL, 0), SCION_META_TOO_SHORT);
+    check_number(&calls[EXPIRATION], scion_expiration(NULL, 0), SCION_META_TOO_SHORT);
+    check_number(&calls[SEGMENT], scion_calculate_segment_index(NULL, 0, 0), SCION_HOP_OUT_OF_BOUNDS);
+    check_number(&calls[JOURNEY], scion_check_journey(NULL, 0, path, RECORD, 0, 0), SCION_META_TOO_SHORT);
+    check_number(&calls[JOURNEY], scion_check_journey(path, path_length, NULL, 0, 0, 0), SCION_UNFIT_ITINERARY);
+    check_number(&calls[JOURNEY], scion_check_journey(NULL, 0, NULL, 0, 0, 0), SCION_META_TOO_SHORT);
+    uint8_t macs[2][16];
+    scion_aes_cmac(key, NULL, 0, macs[0]);
+    scion_aes_cmac(key, path, 0, macs[1]);
+    if (memcmp(macs[0], macs[1], 16) != 0) fail("scion_aes_cmac", "null with length 0 is not taken as nothing");
 }
 
 // ----
@@ -483,6 +572,7 @@ int main(int count, char **words) {
     key_room = make_room(sizeof key);
     itinerary_room = make_room(sizeof itinerary);
     mac_room = make_room(16);
+    call_with_null();
     for (uint32_t i = 0; i < rounds; i++) {
         fuzz_step(&calls[STEP], scion_handle_standard_path);
         fuzz_step(&calls[INGRESS], scion_standard_path_ingress);
@@ -493,6 +583,7 @@ int main(int count, char **words) {
         fuzz_journey(&calls[JOURNEY]);
     }
     for (int i = 0; i < CALLS; i++) report(&calls[i]);
+    if (shared_verdicts[0] == 0 || shared_verdicts[1] == 0) fail("scion_check_journey", "a path in an itinerary");
     printf("%u rounds of nine calls, each made twice\n", (unsigned)rounds);
     return 0;
 }
