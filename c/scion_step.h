@@ -10,9 +10,9 @@
  *   may overlap one another.
  * - `ids` is aligned as a uint16_t is.
  *
- * A call has no state. It allocates nothing, makes no system call and leaves errno alone. So calls may run on many
- * threads at a time, and in signal handlers, as long as none writes what another one is given. A call takes at most
- * SCION_STEP_STACK bytes of stack.
+ * A call is thread-safe: it has no state. It allocates nothing, makes no system call and leaves errno alone. So calls
+ * may run on many threads at a time, and in signal handlers, as long as none writes what another one is given. A call
+ * takes at most SCION_STEP_STACK bytes of stack.
  *
  * The calls are for rehearsal offline, not for live traffic:
  *
