@@ -13,7 +13,14 @@
 #include <stdint.h>
 
 /*
- * An answer. For a refusal `number` is the scope document's, 1 to 25; else one of the SCION_ numbers below.
+ * The version, which the call returns and has in its name: a program that makes the call does not link with an archive of
+ * another version.
+ */
+#define SCION_STEP_VERSION 1
+uint32_t scion_step_version_1(void);
+
+/*
+ * An answer. For a refusal `number` is the scope document's, 1 to 25; else 100 or above. Each has a name below.
  * `values` has `count` values in the scope document's order, and 0 behind them.
  * `scmp_type` is the type of the SCMP error that the refusal is answered with, 4 or 5, or 0 for none; `scmp_code` its
  * code; `scmp_pointer` its pointer (type 4) or the interface (type 5).
@@ -28,6 +35,32 @@ typedef struct {
 } ScionReply;
 
 enum {
+    SCION_UNSOUND_TABLE = 1,
+    SCION_META_TOO_SHORT = 2,
+    SCION_DATA_TOO_SHORT = 3,
+    SCION_TOO_MANY_HOPS = 4,
+    SCION_HOP_OUT_OF_BOUNDS = 5,
+    SCION_SINGLE_HOP_SEGMENT = 6,
+    SCION_INVALID_SEGMENT_INDEX = 7,
+    SCION_INFO_OUT_OF_BOUNDS = 8,
+    SCION_INVALID_INGRESS_INTERFACE = 9,
+    SCION_FUTURE_TIMESTAMP = 10,
+    SCION_SEGMENT_EXPIRED = 11,
+    SCION_INVALID_MAC_ERROR = 12,
+    SCION_INVALID_SCMP_ALERT = 13,
+    SCION_UNKNOWN_INGRESS_INTERFACE = 14,
+    SCION_UNKNOWN_EGRESS_INTERFACE = 15,
+    SCION_INVALID_SEGMENT_CHANGE = 16,
+    SCION_EGRESS_INTERFACE_DOWN = 17,
+    SCION_SEGMENT_END = 18,
+    SCION_INVALID_EGRESS_INTERFACE = 19,
+    SCION_NO_SEGMENTS = 20,
+    SCION_REVERSE_HOP_OUT_OF_BOUNDS = 21,
+    SCION_REVERSE_INFO_OUT_OF_BOUNDS = 22,
+    SCION_UNFIT_ITINERARY = 23,
+    SCION_NOT_AT_START = 24,
+    SCION_ALERT_SET = 25,
+
     SCION_CONTINUE_EGRESS = 100,            /* value: the interface to leave by */
     SCION_FORWARD_NEXT_HOP = 101,           /* value: the interface to leave by */
     SCION_FORWARD_LOCAL = 102,
