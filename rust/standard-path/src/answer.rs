@@ -257,7 +257,8 @@ pub enum StandardRoutingError {
         /// Whether travel is in construction direction.
         cons_dir: bool,
     },
-    /// The hop field's MAC is not the one that the key gives.
+    /// The hop field's MAC is not the one that the key gives. Who gets to see this learns the right one: see
+    /// [Keys](crate#keys).
     InvalidMacError {
         /// The hop.
         hop_index: usize,
