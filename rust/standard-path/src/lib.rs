@@ -20,6 +20,11 @@ pub use answer::{
 };
 pub use table::{AsRoutingInterfaceState, AsRoutingLinkType, InterfaceTable, Interfaces, UnsoundTable};
 
+/// The numbers of all refusals, as `number` of an error gives them. More will be added.
+pub const REFUSALS: &[u16] = &[
+    1, 2, 3, 4, 5, 6, 7, 8, 9, 10, 11, 12, 13, 14, 15, 16, 17, 18, 19, 20, 21, 22, 23, 24, 25,
+];
+
 /// An AS's key for the MACs of its hop fields.
 pub type ForwardingKey = [u8; 16];
 

@@ -204,6 +204,7 @@ pub(crate) fn journey(reply: Reply) -> Result<Verdict, JourneyError> {
 #[cfg(test)]
 mod tests {
     use super::*;
+    use std::panic;
 
     fn reply(number: u16) -> Reply {
         Reply {
@@ -242,6 +243,25 @@ mod tests {
         for number in [5, 112] {
             assert_eq!(segment_index(reply(number)).number(), number);
         }
+    }
+
+    #[test]
+    fn all_refusals_are_known_by_their_numbers() {
+        let calls: [fn(Reply) -> bool; 5] = [
+            |reply| ingress(reply).is_err(),
+            |reply| reversal(reply).is_err(),
+            |reply| expiration(reply).is_err(),
+            |reply| journey(reply).is_err(),
+            |reply| segment_index(reply) == SegmentIndex::OutOfBounds,
+        ];
+        let refuses = |call: &fn(Reply) -> bool, number| panic::catch_unwind(|| call(reply(number))).unwrap_or(false);
+        // A panic says that a number is not taken, without a message.
+        let hook = panic::take_hook();
+        panic::set_hook(Box::new(|_| {}));
+        let is_refusal = |&number: &u16| calls.iter().any(|call| refuses(call, number));
+        let refusals: Vec<u16> = (0..100).filter(is_refusal).collect();
+        panic::set_hook(hook);
+        assert_eq!(refusals, crate::REFUSALS);
     }
 
     #[test]
