@@ -1,6 +1,8 @@
 //! The header, the archive and this crate name the same calls, the same numbers and one version.
 
 use std::collections::{BTreeMap, BTreeSet};
+use std::fs;
+use std::path::{Path, PathBuf};
 use std::process::Command;
 
 const HEADER: &str = include_str!("../../../c/scion_step.h");
@@ -48,6 +50,31 @@ fn header_archive_and_crate_have_the_same_functions() {
         symbols.map(|(_, name)| name.to_string()).collect::<BTreeSet<_>>(),
         in_crate
     );
+}
+
+/// The Rust files below a folder, without what is built.
+fn rust_files(folder: &Path) -> Vec<PathBuf> {
+    let entries = fs::read_dir(folder).unwrap().map(|entry| entry.unwrap().path());
+    let (folders, files): (Vec<_>, Vec<_>) = entries
+        .filter(|path| !path.is_symlink() && !path.ends_with("target"))
+        .partition(|path| path.is_dir());
+    let files = files
+        .into_iter()
+        .filter(|path| path.extension().is_some_and(|extension| extension == "rs"));
+    folders
+        .iter()
+        .flat_map(|folder| rust_files(folder))
+        .chain(files)
+        .collect()
+}
+
+#[test]
+fn the_calls_are_declared_once() {
+    let root = Path::new(env!("CARGO_MANIFEST_DIR")).join("../..");
+    let files = ["rust", "differential"].map(|folder| rust_files(&root.join(folder)));
+    let declares = |file: &&PathBuf| !functions(&fs::read_to_string(file).unwrap(), "fn ").is_empty();
+    let declaring: Vec<_> = files.iter().flatten().filter(declares).collect();
+    assert_eq!(declaring, [&root.join("rust/scion-step-sys/src/lib.rs")]);
 }
 
 #[test]
