@@ -4,13 +4,12 @@
 //! with every clock at the latest; a passed one has to arrive with any other readings too.
 
 use oracle::{inputs::rng::Rng, number};
+use scion_step_sys::{SCION_NOT_PASSED as NOT_PASSED, SCION_PASSED as PASSED};
 use sciparse::dataplane_path::standard::mac::algo::{calculate_hop_mac, mac_beta_step};
 
 use crate::archive;
 
 const RECORD: usize = 32;
-const PASSED: u16 = 120;
-const NOT_PASSED: u16 = 121;
 
 #[derive(Clone, Default)]
 pub struct Station {

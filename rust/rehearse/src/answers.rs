@@ -258,6 +258,8 @@ fn refusal_values(error: StandardRoutingError) -> Vec<(&'static str, Json)> {
         }
         Error::EgressInterfaceDown { hop_index, if_id } => vec![hop(hop_index), ("interface", Json::number(if_id))],
         Error::InvalidScmpAlert { hop_index, cons_dir } => vec![hop(hop_index), ("cons_dir", Json::Flag(cons_dir))],
+        // One that came later is told by its number and sentence, until a test asks for its case.
+        _ => vec![],
     }
 }
 
@@ -307,7 +309,7 @@ pub fn of_header(path: &[u8]) -> Option<Answer> {
 pub fn of_journey(answer: Result<Verdict, JourneyError>) -> Answer {
     match answer {
         Ok(verdict @ Verdict::Passed) => Answer::good("passed", verdict.number(), verdict),
-        Ok(verdict @ Verdict::NotPassed) => Answer::new(false, "not_passed", verdict.number(), verdict),
+        Ok(verdict @ Verdict::NotPassed { .. }) => Answer::new(false, "not_passed", verdict.number(), verdict),
         Err(error) => Answer::refused(error.number(), error),
     }
 }

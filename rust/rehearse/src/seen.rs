@@ -35,7 +35,8 @@ pub fn beside(error: JourneyError, path: &[u8], (plan, read): (&[u8], &Read), re
             seen.extend(gap(header));
         }
         JourneyError::AlertSet => seen.extend(alerts(header)),
-        JourneyError::MetaTooShort | JourneyError::DataTooShort | JourneyError::TooManyHops => {}
+        // Of 2 to 4, and of one that came later, nothing more is known.
+        _ => {}
     }
     seen
 }

@@ -116,6 +116,13 @@ fn folder_for(from: &str, to: &str) -> Folder {
     folder
 }
 
+/// The library's list grows with its refusals.
+#[test]
+fn each_refusal_of_the_library_has_a_case() {
+    let numbers: Vec<u64> = standard_path::REFUSALS.iter().map(|&number| number.into()).collect();
+    assert_eq!(cases().iter().map(|case| case.0).collect::<Vec<_>>(), numbers);
+}
+
 #[test]
 fn each_number_is_shown_with_its_sentence() {
     for (number, from, to, calls) in cases() {

@@ -1,4 +1,5 @@
-//! What the calls answer. The names are pocketscion's; the cases that the step never gives are left out.
+//! What the calls answer. The names are pocketscion's; the cases that the step never gives are left out. An enum that is
+//! known to grow is `non_exhaustive`; the others have all cases that there are.
 //!
 //! From crates/pocketscion/src/network/scion/routing.rs and routing/spec/standard.rs, and from
 //! crates/libs/sciparse/src/proto/dataplane_path/standard/routing.rs, of Anapaya/scion-sdk at commit 866faf5ba3, and
@@ -138,6 +139,7 @@ impl fmt::Display for IngressNextAction {
 
 /// Why a path can't be advanced.
 #[derive(Debug, Clone, Copy, PartialEq, Eq, Hash)]
+#[non_exhaustive]
 pub enum AdvanceError {
     /// There is no hop with this index.
     HopOutOfBounds(u8),
@@ -196,6 +198,7 @@ impl Error for AdvanceError {}
 /// Hop indices count from 0, in the order of the path. `cons_dir` says whether the hop's segment is travelled in the
 /// direction in which it was constructed.
 #[derive(Debug, Clone, Copy, PartialEq, Eq, Hash)]
+#[non_exhaustive]
 pub enum StandardRoutingError {
     /// The interfaces given are no table, see [`UnsoundTable`](crate::UnsoundTable).
     UnsoundTable,
@@ -257,7 +260,8 @@ pub enum StandardRoutingError {
         /// Whether travel is in construction direction.
         cons_dir: bool,
     },
-    /// The hop field's MAC is not the one that the key gives.
+    /// The hop field's MAC is not the one that the key gives. Who gets to see this learns the right one: see
+    /// [Keys](crate#keys).
     InvalidMacError {
         /// The hop.
         hop_index: usize,
@@ -611,7 +615,8 @@ impl fmt::Display for SegmentIndex {
 pub enum Verdict {
     /// The path travels, whatever the stations' clocks read between the two readings.
     Passed,
-    /// For some readings it does not.
+    /// For some readings it does not. Fields will come, so it is matched as `NotPassed { .. }`.
+    #[non_exhaustive]
     NotPassed,
 }
 
@@ -634,8 +639,17 @@ impl fmt::Display for Verdict {
     }
 }
 
+/// No other crate makes a `NotPassed`, as it would without the fields that will come.
+///
+/// ```compile_fail
+/// let verdict = standard_path::Verdict::NotPassed;
+/// ```
+#[cfg(doctest)]
+pub struct MadeElsewhere;
+
 /// Why the journey check can't be made.
 #[derive(Debug, Clone, Copy, PartialEq, Eq, Hash)]
+#[non_exhaustive]
 pub enum JourneyError {
     /// The path is shorter than the four bytes of its meta header.
     MetaTooShort,

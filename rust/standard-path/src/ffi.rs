@@ -1,105 +1,11 @@
 //! The calls into the archive: the only unsafe code of this crate.
 //!
-//! The functions are those of `c/scion_step.h`. Each takes any bytes, any numbers and any lengths; it trusts its caller
-//! only for the pointers. Here they come from references, so that they are valid, aligned, and `path` overlaps nothing.
-//! An empty slice comes as a dangling pointer with length 0: the archive reads no byte at or behind a length. It keeps
-//! no state, so calls may run on several threads.
+//! Each call takes any bytes, any numbers and any lengths; it trusts its caller only for the pointers. Here they come from
+//! references, so that they are valid, aligned, and `path` overlaps nothing. An empty slice comes as a dangling pointer
+//! with length 0: the archive reads no byte at or behind a length. It keeps no state, so calls may run on several threads.
 
 use crate::{ForwardingKey, Interfaces};
-
-/// `ScionReply` of the header.
-#[repr(C)]
-#[derive(Debug, Clone, Copy)]
-pub(crate) struct Reply {
-    pub(crate) number: u16,
-    pub(crate) count: u16,
-    pub(crate) values: [u64; 4],
-    pub(crate) scmp_type: u8,
-    pub(crate) scmp_code: u8,
-    pub(crate) scmp_pointer: u32,
-}
-
-/// What the whole step and its halves share in C.
-type Step = unsafe extern "C" fn(
-    ids: *const u16,
-    ids_length: usize,
-    states: *const u8,
-    states_length: usize,
-    path: *mut u8,
-    path_length: usize,
-    interface_id: u16,
-    time: u32,
-    forwarding_key: *const ForwardingKey,
-    ignore_macs: bool,
-) -> Reply;
-
-extern "C" {
-    fn scion_handle_standard_path(
-        ids: *const u16,
-        ids_length: usize,
-        states: *const u8,
-        states_length: usize,
-        path: *mut u8,
-        path_length: usize,
-        ingress_interface_id: u16,
-        time: u32,
-        forwarding_key: *const ForwardingKey,
-        ignore_macs: bool,
-    ) -> Reply;
-
-    fn scion_standard_path_ingress(
-        ids: *const u16,
-        ids_length: usize,
-        states: *const u8,
-        states_length: usize,
-        path: *mut u8,
-        path_length: usize,
-        ingress_interface_id: u16,
-        time: u32,
-        forwarding_key: *const ForwardingKey,
-        ignore_macs: bool,
-    ) -> Reply;
-
-    fn scion_standard_path_egress(
-        ids: *const u16,
-        ids_length: usize,
-        states: *const u8,
-        states_length: usize,
-        path: *mut u8,
-        path_length: usize,
-        egress_if_id: u16,
-        time: u32,
-        forwarding_key: *const ForwardingKey,
-        ignore_macs: bool,
-    ) -> Reply;
-
-    fn scion_try_reverse(path: *mut u8, path_length: usize) -> Reply;
-
-    fn scion_expiration(path: *const u8, path_length: usize) -> Reply;
-
-    fn scion_calculate_segment_index(path: *const u8, path_length: usize, hop_idx: u8) -> Reply;
-
-    fn scion_check_journey(
-        path: *const u8,
-        path_length: usize,
-        itinerary: *const u8,
-        itinerary_length: usize,
-        earliest: u32,
-        latest: u32,
-    ) -> Reply;
-
-    fn scion_aes_cmac(key: *const [u8; 16], message: *const u8, message_length: usize, mac: *mut [u8; 16]);
-
-    fn scion_calculate_hop_mac(
-        segment_id: u16,
-        timestamp: u32,
-        exp_time: u8,
-        cons_ingress: u16,
-        cons_egress: u16,
-        key: *const ForwardingKey,
-        mac: *mut [u8; 6],
-    );
-}
+use scion_step_sys::{self as sys, ScionReply as Reply, ScionStep};
 
 /// Where a packet is, when, and with which key: the arguments of a step beside its path and its table.
 #[derive(Clone, Copy)]
@@ -110,9 +16,9 @@ pub(crate) struct At<'a> {
     pub(crate) ignore_macs: bool,
 }
 
-fn step(call: Step, interfaces: Interfaces<'_>, path: &mut [u8], at: At<'_>) -> Reply {
+fn step(call: ScionStep, interfaces: Interfaces<'_>, path: &mut [u8], at: At<'_>) -> Reply {
     let Interfaces { ids, states } = interfaces;
-    // SAFETY: `call` is one of the three functions above with this signature. Each pointer comes from a reference that
+    // SAFETY: `call` is one of the three functions with this signature. Each pointer comes from a reference that
     // lives through the call, with that reference's length; `path` is borrowed mutably, so nothing overlaps it; the key
     // is read as the 16 bytes it has.
     unsafe {
@@ -132,36 +38,36 @@ fn step(call: Step, interfaces: Interfaces<'_>, path: &mut [u8], at: At<'_>) -> 
 }
 
 pub(crate) fn whole_step(interfaces: Interfaces<'_>, path: &mut [u8], at: At<'_>) -> Reply {
-    step(scion_handle_standard_path, interfaces, path, at)
+    step(sys::scion_handle_standard_path, interfaces, path, at)
 }
 
 pub(crate) fn ingress(interfaces: Interfaces<'_>, path: &mut [u8], at: At<'_>) -> Reply {
-    step(scion_standard_path_ingress, interfaces, path, at)
+    step(sys::scion_standard_path_ingress, interfaces, path, at)
 }
 
 pub(crate) fn egress(interfaces: Interfaces<'_>, path: &mut [u8], at: At<'_>) -> Reply {
-    step(scion_standard_path_egress, interfaces, path, at)
+    step(sys::scion_standard_path_egress, interfaces, path, at)
 }
 
 pub(crate) fn try_reverse(path: &mut [u8]) -> Reply {
     // SAFETY: pointer and length of one mutable slice.
-    unsafe { scion_try_reverse(path.as_mut_ptr(), path.len()) }
+    unsafe { sys::scion_try_reverse(path.as_mut_ptr(), path.len()) }
 }
 
 pub(crate) fn expiration(path: &[u8]) -> Reply {
     // SAFETY: pointer and length of one slice, which is only read.
-    unsafe { scion_expiration(path.as_ptr(), path.len()) }
+    unsafe { sys::scion_expiration(path.as_ptr(), path.len()) }
 }
 
 pub(crate) fn calculate_segment_index(path: &[u8], hop_idx: u8) -> Reply {
     // SAFETY: pointer and length of one slice, which is only read.
-    unsafe { scion_calculate_segment_index(path.as_ptr(), path.len(), hop_idx) }
+    unsafe { sys::scion_calculate_segment_index(path.as_ptr(), path.len(), hop_idx) }
 }
 
 pub(crate) fn check_journey(path: &[u8], itinerary: &[u8], earliest: u32, latest: u32) -> Reply {
     // SAFETY: pointers and lengths of two slices, which are only read.
     unsafe {
-        scion_check_journey(
+        sys::scion_check_journey(
             path.as_ptr(),
             path.len(),
             itinerary.as_ptr(),
@@ -175,7 +81,7 @@ pub(crate) fn check_journey(path: &[u8], itinerary: &[u8], earliest: u32, latest
 pub(crate) fn aes_cmac(key: &[u8; 16], message: &[u8]) -> [u8; 16] {
     let mut mac = [0; 16];
     // SAFETY: `key` and `message` are only read, within their lengths; `mac` has the 16 bytes that are written.
-    unsafe { scion_aes_cmac(key, message.as_ptr(), message.len(), &mut mac) };
+    unsafe { sys::scion_aes_cmac(key, message.as_ptr(), message.len(), &mut mac) };
     mac
 }
 
@@ -190,7 +96,7 @@ pub(crate) fn calculate_hop_mac(
     let mut mac = [0; 6];
     // SAFETY: `key` is only read; `mac` has the 6 bytes that are written.
     unsafe {
-        scion_calculate_hop_mac(
+        sys::scion_calculate_hop_mac(
             segment_id,
             timestamp,
             exp_time,

@@ -1,44 +1,11 @@
-//! SCION's standard-path forwarding step, proved in Rattle, for programs written for pocketscion.
+#![doc = include_str!("../README.md")]
 //!
-//! The functions have pocketscion's names, the enums too. A path is the bytes of its header, of any length and any
-//! content: no call panics, and each gives the answer that the scope document's questions, asked in their order, give.
-//! What each promises, for the answer and for every byte of the path afterwards, is the contract of the function with
-//! `scion_` before its name in `crates/exports/src/calls.rt`; this crate adds names to the numbers that come back.
+//! ## Beside pocketscion
 //!
 //! Unlike pocketscion's, the step
 //! - takes the AS's interfaces as a table, an [`InterfaceTable`] or unchecked [`Interfaces`], and no closure;
 //! - takes no `local_as`, which nothing in the step looks at;
 //! - refuses with a [`Refusal`], which has the SCMP error's type, code, and pointer or interface, without its message.
-//!
-//! ```
-//! use standard_path::{
-//!     calculate_hop_mac, handle_standard_path, AsRoutingAction, InterfaceTable, ScionNetworkTime,
-//!     StandardRoutingError,
-//! };
-//!
-//! # fn main() -> Result<(), Box<dyn std::error::Error>> {
-//! let key = *b"a forwarding key";
-//! let table = InterfaceTable::new([1, 3], [4 + 2, 4 + 1])?; // 1 to a child, 3 to a parent, both up
-//!
-//! // One segment of three hops in construction direction, timestamp 1000, at its second hop, from 3 to 1.
-//! let mut path = [0; 48];
-//! path[..12].copy_from_slice(&[1, 0, 3 << 4, 0, 1, 0, 0x12, 0x34, 0, 0, 3, 232]);
-//! path[24..30].copy_from_slice(&[0, 0, 0, 3, 0, 1]);
-//! path[30..36].copy_from_slice(&calculate_hop_mac(0x1234, 1000, 0, 3, 1, &key));
-//!
-//! let late = ScionNetworkTime::from_timestamp_secs(1338);
-//! let refusal = handle_standard_path(&mut path.clone(), 3, late, &key, &table, false).unwrap_err();
-//! assert_eq!(refusal.error, StandardRoutingError::SegmentExpired { hop_index: 1 });
-//! assert_eq!(refusal.to_string(), "hop 1: the hop field has expired");
-//! assert_eq!(refusal.to_scmp_error().map(|scmp| (scmp.scmp_type(), scmp.code())), Some((4, 52)));
-//!
-//! let in_time = ScionNetworkTime::from_timestamp_secs(1337);
-//! let action = handle_standard_path(&mut path, 3, in_time, &key, &table, false)?;
-//! assert_eq!(action, AsRoutingAction::ForwardNextHop { egress_interface_id: 1 });
-//! assert_eq!(path[0], 2); // the path stands at its third hop
-//! # Ok(())
-//! # }
-//! ```
 #![deny(unsafe_code, unsafe_op_in_unsafe_fn, missing_docs)]
 
 mod answer;
@@ -52,6 +19,11 @@ pub use answer::{
     PathReverseError, Refusal, ScmpError, SegmentIndex, StandardRoutingError, Verdict,
 };
 pub use table::{AsRoutingInterfaceState, AsRoutingLinkType, InterfaceTable, Interfaces, UnsoundTable};
+
+/// The numbers of all refusals, as `number` of an error gives them. More will be added.
+pub const REFUSALS: &[u16] = &[
+    1, 2, 3, 4, 5, 6, 7, 8, 9, 10, 11, 12, 13, 14, 15, 16, 17, 18, 19, 20, 21, 22, 23, 24, 25,
+];
 
 /// An AS's key for the MACs of its hop fields.
 pub type ForwardingKey = [u8; 16];

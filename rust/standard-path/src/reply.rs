@@ -1,18 +1,28 @@
 //! Replies of the archive as answers. Each function takes every reply that the contract of its call allows; that no
 //! other comes is proved there, so that another one is a fault of this crate or of the archive and ends the program.
 
-use crate::ffi::Reply;
 use crate::{
     AdvanceError, AsRoutingAction, HeaderError, IngressNextAction, JourneyError, LocalAsRoutingAction,
     PathReverseError, Refusal, ScmpError, SegmentIndex, StandardRoutingError, Verdict,
 };
+use scion_step_sys::{ScionReply as Reply, *};
 
 fn ruled_out(reply: Reply) -> ! {
     unreachable!("the archive gave a reply that its contract rules out: {reply:?}")
 }
 
-impl Reply {
-    /// A value that fits in a smaller type.
+/// What a value stands for.
+trait Values {
+    /// A number that fits in a smaller type.
+    fn value<T: TryFrom<u64>>(self, at: usize) -> T;
+
+    fn flag(self, at: usize) -> bool;
+
+    /// A number of 48 bits.
+    fn mac(self, at: usize) -> [u8; 6];
+}
+
+impl Values for Reply {
     fn value<T: TryFrom<u64>>(self, at: usize) -> T {
         T::try_from(self.values[at]).unwrap_or_else(|_| ruled_out(self))
     }
@@ -25,7 +35,6 @@ impl Reply {
         }
     }
 
-    /// A number of 48 bits.
     fn mac(self, at: usize) -> [u8; 6] {
         match self.values[at].to_be_bytes() {
             [0, 0, mac @ ..] => mac,
@@ -37,15 +46,15 @@ impl Reply {
 fn action(reply: Reply) -> Option<AsRoutingAction> {
     let interface_id = || reply.value(0);
     Some(match reply.number {
-        101 => AsRoutingAction::ForwardNextHop {
+        SCION_FORWARD_NEXT_HOP => AsRoutingAction::ForwardNextHop {
             egress_interface_id: interface_id(),
         },
-        102 => LocalAsRoutingAction::ForwardLocal.into(),
-        103 => LocalAsRoutingAction::IngressSCMPHandleRequest {
+        SCION_FORWARD_LOCAL => LocalAsRoutingAction::ForwardLocal.into(),
+        SCION_INGRESS_SCMP_HANDLE_REQUEST => LocalAsRoutingAction::IngressSCMPHandleRequest {
             interface_id: interface_id(),
         }
         .into(),
-        104 => LocalAsRoutingAction::EgressSCMPHandleRequest {
+        SCION_EGRESS_SCMP_HANDLE_REQUEST => LocalAsRoutingAction::EgressSCMPHandleRequest {
             interface_id: interface_id(),
         }
         .into(),
@@ -56,52 +65,52 @@ fn action(reply: Reply) -> Option<AsRoutingAction> {
 fn error(reply: Reply) -> StandardRoutingError {
     let hop_index = || reply.value(0);
     match reply.number {
-        1 => StandardRoutingError::UnsoundTable,
-        2 => StandardRoutingError::MetaTooShort,
-        3 => StandardRoutingError::DataTooShort,
-        4 => StandardRoutingError::TooManyHops,
-        5 => AdvanceError::HopOutOfBounds(reply.value(0)).into(),
-        6 => AdvanceError::SingleHopSegment.into(),
-        7 => AdvanceError::InvalidSegmentIndex {
+        SCION_UNSOUND_TABLE => StandardRoutingError::UnsoundTable,
+        SCION_META_TOO_SHORT => StandardRoutingError::MetaTooShort,
+        SCION_DATA_TOO_SHORT => StandardRoutingError::DataTooShort,
+        SCION_TOO_MANY_HOPS => StandardRoutingError::TooManyHops,
+        SCION_HOP_OUT_OF_BOUNDS => AdvanceError::HopOutOfBounds(reply.value(0)).into(),
+        SCION_SINGLE_HOP_SEGMENT => AdvanceError::SingleHopSegment.into(),
+        SCION_INVALID_SEGMENT_INDEX => AdvanceError::InvalidSegmentIndex {
             expected: reply.value(0),
             actual: reply.value(1),
         }
         .into(),
-        8 => AdvanceError::InfoOutOfBounds(reply.value(0)).into(),
-        9 => StandardRoutingError::InvalidIngressInterface {
+        SCION_INFO_OUT_OF_BOUNDS => AdvanceError::InfoOutOfBounds(reply.value(0)).into(),
+        SCION_INVALID_INGRESS_INTERFACE => StandardRoutingError::InvalidIngressInterface {
             hop_index: hop_index(),
             expected: reply.value(1),
             found: reply.value(2),
             cons_dir: reply.flag(3),
         },
-        10 => StandardRoutingError::FutureTimestamp { hop_index: hop_index() },
-        11 => StandardRoutingError::SegmentExpired { hop_index: hop_index() },
-        12 => StandardRoutingError::InvalidMacError {
+        SCION_FUTURE_TIMESTAMP => StandardRoutingError::FutureTimestamp { hop_index: hop_index() },
+        SCION_SEGMENT_EXPIRED => StandardRoutingError::SegmentExpired { hop_index: hop_index() },
+        SCION_INVALID_MAC_ERROR => StandardRoutingError::InvalidMacError {
             hop_index: hop_index(),
             expected: reply.mac(1),
             actual: reply.mac(2),
         },
-        13 => StandardRoutingError::InvalidScmpAlert {
+        SCION_INVALID_SCMP_ALERT => StandardRoutingError::InvalidScmpAlert {
             hop_index: hop_index(),
             cons_dir: reply.flag(1),
         },
-        14 => StandardRoutingError::UnknownIngressInterface {
+        SCION_UNKNOWN_INGRESS_INTERFACE => StandardRoutingError::UnknownIngressInterface {
             hop_index: hop_index(),
             if_id: reply.value(1),
             cons_dir: reply.flag(2),
         },
-        15 => StandardRoutingError::UnknownEgressInterface {
+        SCION_UNKNOWN_EGRESS_INTERFACE => StandardRoutingError::UnknownEgressInterface {
             hop_index: hop_index(),
             if_id: reply.value(1),
             cons_dir: reply.flag(2),
         },
-        16 => StandardRoutingError::InvalidSegmentChange { hop_index: hop_index() },
-        17 => StandardRoutingError::EgressInterfaceDown {
+        SCION_INVALID_SEGMENT_CHANGE => StandardRoutingError::InvalidSegmentChange { hop_index: hop_index() },
+        SCION_EGRESS_INTERFACE_DOWN => StandardRoutingError::EgressInterfaceDown {
             hop_index: hop_index(),
             if_id: reply.value(1),
         },
-        18 => AdvanceError::SegmentEnd.into(),
-        19 => StandardRoutingError::InvalidEgressInterface {
+        SCION_SEGMENT_END => AdvanceError::SegmentEnd.into(),
+        SCION_INVALID_EGRESS_INTERFACE => StandardRoutingError::InvalidEgressInterface {
             hop_index: hop_index(),
             expected: reply.value(1),
             found: reply.value(2),
@@ -135,7 +144,7 @@ pub(crate) fn step(reply: Reply) -> Result<AsRoutingAction, Refusal> {
 }
 
 pub(crate) fn ingress(reply: Reply) -> Result<IngressNextAction, Refusal> {
-    if reply.number == 100 {
+    if reply.number == SCION_CONTINUE_EGRESS {
         return Ok(IngressNextAction::ContinueEgress {
             egress_interface_id: reply.value(0),
         });
@@ -145,49 +154,49 @@ pub(crate) fn ingress(reply: Reply) -> Result<IngressNextAction, Refusal> {
 
 pub(crate) fn reversal(reply: Reply) -> Result<(), PathReverseError> {
     match reply.number {
-        110 => Ok(()),
-        2 => Err(PathReverseError::MetaTooShort),
-        3 => Err(PathReverseError::DataTooShort),
-        4 => Err(PathReverseError::TooManyHops),
-        20 => Err(PathReverseError::NoSegments),
-        21 => Err(PathReverseError::HopOutOfBounds),
-        22 => Err(PathReverseError::InfoOutOfBounds),
+        SCION_REVERSED => Ok(()),
+        SCION_META_TOO_SHORT => Err(PathReverseError::MetaTooShort),
+        SCION_DATA_TOO_SHORT => Err(PathReverseError::DataTooShort),
+        SCION_TOO_MANY_HOPS => Err(PathReverseError::TooManyHops),
+        SCION_NO_SEGMENTS => Err(PathReverseError::NoSegments),
+        SCION_REVERSE_HOP_OUT_OF_BOUNDS => Err(PathReverseError::HopOutOfBounds),
+        SCION_REVERSE_INFO_OUT_OF_BOUNDS => Err(PathReverseError::InfoOutOfBounds),
         _ => ruled_out(reply),
     }
 }
 
 pub(crate) fn expiration(reply: Reply) -> Result<u32, HeaderError> {
     match reply.number {
-        111 => Ok(reply.value(0)),
-        2 => Err(HeaderError::MetaTooShort),
-        3 => Err(HeaderError::DataTooShort),
-        4 => Err(HeaderError::TooManyHops),
+        SCION_EXPIRATION => Ok(reply.value(0)),
+        SCION_META_TOO_SHORT => Err(HeaderError::MetaTooShort),
+        SCION_DATA_TOO_SHORT => Err(HeaderError::DataTooShort),
+        SCION_TOO_MANY_HOPS => Err(HeaderError::TooManyHops),
         _ => ruled_out(reply),
     }
 }
 
 pub(crate) fn segment_index(reply: Reply) -> SegmentIndex {
     match reply.number {
-        112 => SegmentIndex::At {
+        SCION_SEGMENT_INDEX => SegmentIndex::At {
             index: reply.value(0),
             start: reply.flag(1),
             end: reply.flag(2),
         },
-        5 => SegmentIndex::OutOfBounds,
+        SCION_HOP_OUT_OF_BOUNDS => SegmentIndex::OutOfBounds,
         _ => ruled_out(reply),
     }
 }
 
 pub(crate) fn journey(reply: Reply) -> Result<Verdict, JourneyError> {
     match reply.number {
-        120 => Ok(Verdict::Passed),
-        121 => Ok(Verdict::NotPassed),
-        2 => Err(JourneyError::MetaTooShort),
-        3 => Err(JourneyError::DataTooShort),
-        4 => Err(JourneyError::TooManyHops),
-        23 => Err(JourneyError::UnfitItinerary),
-        24 => Err(JourneyError::NotAtStart),
-        25 => Err(JourneyError::AlertSet),
+        SCION_PASSED => Ok(Verdict::Passed),
+        SCION_NOT_PASSED => Ok(Verdict::NotPassed),
+        SCION_META_TOO_SHORT => Err(JourneyError::MetaTooShort),
+        SCION_DATA_TOO_SHORT => Err(JourneyError::DataTooShort),
+        SCION_TOO_MANY_HOPS => Err(JourneyError::TooManyHops),
+        SCION_UNFIT_ITINERARY => Err(JourneyError::UnfitItinerary),
+        SCION_NOT_AT_START => Err(JourneyError::NotAtStart),
+        SCION_ALERT_SET => Err(JourneyError::AlertSet),
         _ => ruled_out(reply),
     }
 }
@@ -195,6 +204,7 @@ pub(crate) fn journey(reply: Reply) -> Result<Verdict, JourneyError> {
 #[cfg(test)]
 mod tests {
     use super::*;
+    use std::panic;
 
     fn reply(number: u16) -> Reply {
         Reply {
@@ -233,6 +243,25 @@ mod tests {
         for number in [5, 112] {
             assert_eq!(segment_index(reply(number)).number(), number);
         }
+    }
+
+    #[test]
+    fn all_refusals_are_known_by_their_numbers() {
+        let calls: [fn(Reply) -> bool; 5] = [
+            |reply| ingress(reply).is_err(),
+            |reply| reversal(reply).is_err(),
+            |reply| expiration(reply).is_err(),
+            |reply| journey(reply).is_err(),
+            |reply| segment_index(reply) == SegmentIndex::OutOfBounds,
+        ];
+        let refuses = |call: &fn(Reply) -> bool, number| panic::catch_unwind(|| call(reply(number))).unwrap_or(false);
+        // A panic says that a number is not taken, without a message.
+        let hook = panic::take_hook();
+        panic::set_hook(Box::new(|_| {}));
+        let is_refusal = |&number: &u16| calls.iter().any(|call| refuses(call, number));
+        let refusals: Vec<u16> = (0..100).filter(is_refusal).collect();
+        panic::set_hook(hook);
+        assert_eq!(refusals, crate::REFUSALS);
     }
 
     #[test]

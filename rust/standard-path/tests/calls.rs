@@ -129,8 +129,8 @@ fn a_journey_is_checked() {
     let check =
         |earliest, latest| check_journey(&path, &itinerary, ScionNetworkTime(earliest), ScionNetworkTime(latest));
     assert_eq!(check(1000, 1337), Ok(Verdict::Passed));
-    assert_eq!(check(1000, 1338), Ok(Verdict::NotPassed));
-    assert_eq!(check(999, 1337), Ok(Verdict::NotPassed));
+    assert!(matches!(check(1000, 1338), Ok(Verdict::NotPassed { .. })));
+    assert!(matches!(check(999, 1337), Ok(Verdict::NotPassed { .. })));
     assert_eq!(check(1001, 1000), Err(JourneyError::UnfitItinerary));
     let altered = |at: usize, byte: u8| {
         let mut path = path.clone();
@@ -139,7 +139,7 @@ fn a_journey_is_checked() {
     };
     assert_eq!(altered(0, 1), Err(JourneyError::NotAtStart));
     assert_eq!(altered(12, 1), Err(JourneyError::AlertSet));
-    assert_eq!(altered(18, path[18] ^ 1), Ok(Verdict::NotPassed));
+    assert!(matches!(altered(18, path[18] ^ 1), Ok(Verdict::NotPassed { .. })));
 }
 
 #[test]

@@ -104,6 +104,7 @@ fn values(error: StandardRoutingError) -> Vec<u64> {
         }
         EgressInterfaceDown { hop_index, if_id } => vec![hop_index as u64, if_id.into()],
         InvalidScmpAlert { hop_index, cons_dir } => vec![hop_index as u64, cons_dir.into()],
+        _ => panic!("the model has no such refusal: {error:?}"),
     }
 }
 

@@ -39,7 +39,7 @@ fn each_journey_case_answers_as_the_model() {
             "case" => {
                 let verdict = match check_journey(path, itinerary, time(words[1]), time(words[2])) {
                     Ok(Verdict::Passed) => "passed".into(),
-                    Ok(Verdict::NotPassed) => "not passed".into(),
+                    Ok(Verdict::NotPassed { .. }) => "not passed".into(),
                     Err(error) => format!("refused {}", error.number()),
                 };
                 assert_eq!(Some(&format!("{}: {verdict}", words[3..].join(" "))[..]), lines.next());

@@ -89,7 +89,7 @@ pub fn check(files: &Files, path: &OsStr, plan: &OsStr, between: &Between) -> Ch
             let first = report.list("not asked", "not_asked", seen);
             first.map(|first| format!("not asked: {first}{more}"))
         }
-        Ok(Verdict::NotPassed) => where_it_stops(&path, &read.stations, readings, &mut report),
+        Ok(Verdict::NotPassed { .. }) => where_it_stops(&path, &read.stations, readings, &mut report),
         Err(error) => {
             let seen = seen::beside(error, &path, (&plan, &read), readings);
             report.list("seen", "seen", seen).or(Some(answer.sentence.clone()))
