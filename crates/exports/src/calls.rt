@@ -1,5 +1,5 @@
-// The calls of C. Each takes any bytes, numbers and lengths; a null or dangling pointer, or a length that is not the buffer's, is the
-// caller's fault.
+// The calls of C. Each takes any bytes, numbers and lengths; a pointer that is not valid for its length, or an argument that is written
+// and overlaps another, is the caller's fault.
 use crate::reply;
 use crate::reply::Reply;
 use aes_cmac::cmac;
