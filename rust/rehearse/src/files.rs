@@ -1,5 +1,6 @@
 //! Files that are read and written: on the disk, or in memory for the demonstration.
 
+use crate::by_hand;
 use crate::hex;
 use crate::kinds::{self, Kind};
 use crate::mistake::{mistake, Checked};
@@ -258,21 +259,10 @@ pub fn as_bytes(bytes: Vec<u8>, name: &OsStr) -> Checked<Vec<u8>> {
     }
 }
 
-/// Whether a file is there that somebody may have written by hand: text, but for hex. Its start tells.
+/// Whether a text is there.
 fn is_text(name: &OsStr) -> bool {
     let is_file = fs::metadata(name).is_ok_and(|about| about.is_file());
-    let mut start = Vec::new();
-    let read = |file: fs::File| file.take(65_536).read_to_end(&mut start);
-    if !is_file || fs::File::open(name).and_then(read).is_err() {
-        return false;
-    }
-    // A letter may be cut at the end of what was read.
-    let cut = std::str::from_utf8(&start)
-        .err()
-        .filter(|error| error.error_len().is_none());
-    let text = cut.map_or(&start[..], |error| &start[..error.valid_up_to()]);
-    let is_hex = hex::is_hex(without_mark(text));
-    !is_hex && (plain_text(text).is_some() || other_letters(text).is_some())
+    is_file && fs::read(name).is_ok_and(|bytes| by_hand::is_text(&bytes))
 }
 
 /// A file's name as it is shown.

@@ -5,6 +5,7 @@
 
 mod answers;
 mod arguments;
+mod by_hand;
 mod commands;
 mod dates;
 mod drive;
