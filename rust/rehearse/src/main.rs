@@ -23,13 +23,16 @@ mod mistake;
 mod nearest;
 mod not_asked;
 mod output;
+mod part;
 mod path_text;
 mod path_words;
 mod plan;
 mod report;
+mod rights;
 mod seen;
 mod sentences;
 mod signing;
+mod write;
 
 use std::process::ExitCode;
 
