@@ -1,10 +1,10 @@
-//! Who may read and write what is written: keys are their owner's alone, also while they are written; the rights of a file
-//! stay; what may not be replaced stays as it is.
+//! Who may read and write what is written: keys are their owner's alone, also while they are written, and are printed only
+//! where they are asked for; the rights of a file stay; what may not be replaced stays as it is.
 #![cfg(unix)]
 
 mod common;
 
-use common::{Folder, Ran, PROGRAM};
+use common::{Folder, Ran, HALL_A, PROGRAM, READINGS};
 use std::fs::{self, Metadata, Permissions};
 use std::os::unix::fs::{chown, symlink, MetadataExt, PermissionsExt};
 use std::os::unix::process::CommandExt;
@@ -77,6 +77,31 @@ fn a_new_file_with_keys_is_its_owner_s_alone() {
     }
     for name in "good.txt late.txt good.path late.path back.path good.hex".split(' ') {
         assert_eq!(format!("{:o}", rights(&folder, name)), "664", "{name}");
+    }
+}
+
+/// Keys that go to a file are not printed too.
+#[test]
+fn keys_are_printed_only_where_they_are_asked_for() {
+    let folder = Folder::with_site();
+    let prints_key = |call: &str| {
+        let ran = folder.run(call);
+        assert_eq!((ran.status, &ran.err[..]), (0, ""), "{call}");
+        ran.out.contains("30a1f2c4b5d697e8091a2b3c4d5e6f70")
+    };
+    for call in [
+        "plan plan.txt -o out.plan --json",
+        "plan plan.txt -o out.hex --json",
+        "sign good.txt --plan plan.txt --json",
+        "step good.path --plan plan.txt --station 0 --now 1794809100 --json",
+        &format!("step good.path {HALL_A} --interface 0 --now 1794809100 --json"),
+        &format!("journey good.path plan.txt {} --json", READINGS),
+        "demo --write site --json",
+    ] {
+        assert!(!prints_key(call), "{call}");
+    }
+    for call in ["plan plan.txt --json", "plan plan.txt -o -", "plan --show site.plan"] {
+        assert!(prints_key(call), "{call}");
     }
 }
 

@@ -54,7 +54,10 @@ fn write(arguments: &Arguments, files: &Files) -> Checked<Report> {
     );
     report.member("stations", Json::number(stations.len()));
     report.member("fits_some_path", Json::Flag(refused.is_none()));
-    report.member("plan", Json::text(hex::to_hex(&bytes)));
+    if file.is_none() {
+        // Keys that go to a file are not printed too.
+        report.member("plan", Json::text(hex::to_hex(&bytes)));
+    }
     report.notes.extend(refused);
     let made = Made {
         bytes: &bytes,
