@@ -30,12 +30,18 @@ const CLOSED: &str =
 
 /// Writes all of a file, or leaves what is there. What is no plain file, as a pipe, is written as it is.
 pub fn whole(name: &Path, content: &[u8], holds: Holds) -> Checked<()> {
-    let written = match place_of(name) {
-        Ok(Some(place)) => replace(&place, content.chunks(65_536), holds),
-        Ok(None) => write_into(name, content),
-        Err(why) => Err(why),
-    };
+    // Calls may write one file at the same time: what has changed meanwhile is looked at again.
+    let mut tries = std::iter::repeat_with(|| written(name, content, holds)).take(8);
+    let is_settled = |written: &Result<(), Why>| !matches!(written, Err(why) if why == CHANGED);
+    let written = tries.find(is_settled).unwrap_or(Err(CHANGED.into()));
     written.or_else(|why| mistake(format!("{} {why}", name.display())))
+}
+
+fn written(name: &Path, content: &[u8], holds: Holds) -> Result<(), Why> {
+    match place_of(name)? {
+        Some(place) => replace(&place, content.chunks(65_536), holds),
+        None => write_into(name, content),
+    }
 }
 
 /// Where a plain file stands or is to stand, behind all links; nothing for what is no plain file.

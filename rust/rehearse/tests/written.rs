@@ -220,6 +220,20 @@ fn half_a_file_is_never_left() {
     assert_eq!(folder.read("out").len(), 8 << 20);
 }
 
+/// Calls that write one file at the same time all write it.
+#[test]
+fn a_file_is_written_by_several_calls_at_once() {
+    let folder = Folder::with_site();
+    let calls = "for call in 1 2 3 4 5 6; do $0 plan plan.txt -o shared & done; wait";
+    let ran = Command::new("sh")
+        .args(["-c", calls, PROGRAM])
+        .current_dir(&folder.0)
+        .output()
+        .unwrap();
+    assert!(ran.stderr.is_empty(), "{ran:?}");
+    assert_eq!(folder.read("shared"), folder.read("site.plan"));
+}
+
 /// A second hard link of what is read gets bytes of its own.
 #[cfg(unix)]
 #[test]

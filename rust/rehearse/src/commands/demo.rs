@@ -162,23 +162,8 @@ fn write_site(name: &OsStr) -> Checked<Report> {
     if name.is_empty() || name == "-" {
         return mistake("--write takes a folder: name one, as `rehearse demo --write site`");
     }
-    let (folder, files) = (Path::new(name), all_files()?);
-    if let Err(error) = fs::create_dir_all(folder) {
-        return mistake(format!(
-            "{} can't be made ({error}): name another folder",
-            folder.display()
-        ));
-    }
-    // Nothing is written where something of another's stands in the way.
-    let mut missing = Vec::new();
-    for (name, content) in &files {
-        if !is_there(&folder.join(name), content)? {
-            missing.push((name, content));
-        }
-    }
-    for (name, content) in missing {
-        write::whole(&folder.join(name), content, holds(name))?;
-    }
+    let files = all_files()?;
+    write_all(Path::new(name), &files)?;
     let names: Vec<&str> = files.iter().map(|&(name, _)| name).collect();
     let text = format!(
         "{} written to {}\n",
@@ -188,6 +173,24 @@ fn write_site(name: &OsStr) -> Checked<Report> {
     let mut report = Report::done("demo", "written", text);
     report.member("files", Json::List(names.into_iter().map(Json::text).collect()));
     Ok(report)
+}
+
+/// Writes what is not there yet. Nothing is written where something of another's stands in the way.
+fn write_all(folder: &Path, files: &[(&str, Vec<u8>)]) -> Checked<()> {
+    if let Err(error) = fs::create_dir_all(folder) {
+        return mistake(format!(
+            "{} can't be made ({error}): name another folder",
+            folder.display()
+        ));
+    }
+    let mut missing = Vec::new();
+    for (name, content) in files {
+        if !is_there(&folder.join(name), content)? {
+            missing.push((name, content));
+        }
+    }
+    let mut missing = missing.into_iter();
+    missing.try_for_each(|(name, content)| write::whole(&folder.join(name), content, holds(name)))
 }
 
 /// Whether a file of the example is there.
