@@ -3,11 +3,12 @@
 use crate::hex;
 use crate::kinds::{self, Kind};
 use crate::mistake::{mistake, Checked};
+use crate::write::{self, Holds};
 use std::cell::{Cell, RefCell};
 use std::collections::{BTreeMap, BTreeSet};
 use std::ffi::{OsStr, OsString};
 use std::fs;
-use std::io::{self, ErrorKind, Read, Write};
+use std::io::{self, ErrorKind, Read};
 use std::path::{Path, PathBuf};
 
 /// The most bytes that are read of a file: far more than any header or plan has.
@@ -21,6 +22,14 @@ pub enum Files {
         read: RefCell<BTreeSet<PathBuf>>,
     },
     Memory(RefCell<BTreeMap<OsString, Vec<u8>>>),
+}
+
+/// What is made for a file.
+pub struct Made<'a> {
+    pub bytes: &'a [u8],
+    /// The same as hex text.
+    pub hex: &'a str,
+    pub holds: Holds,
 }
 
 /// How a file of bytes is to be read.
@@ -100,80 +109,26 @@ impl Files {
     }
 
     /// Writes a file: as raw bytes, or as the hex text where its name ends so.
-    pub fn write(&self, name: &OsStr, bytes: &[u8], hex: &str) -> Checked<()> {
+    pub fn write(&self, name: &OsStr, made: &Made<'_>) -> Checked<()> {
         if name.is_empty() {
             return mistake("the name of the file to write is empty: name a file");
         }
         let is_hex = name.to_string_lossy().ends_with(".hex");
-        let content = if is_hex { hex.as_bytes() } else { bytes };
+        let content = if is_hex { made.hex.as_bytes() } else { made.bytes };
         match self {
             Files::Memory(files) => {
                 files.borrow_mut().insert(name.to_owned(), content.to_vec());
                 Ok(())
             }
-            Files::Disk { read, .. } => {
-                if fs::canonicalize(name).is_ok_and(|name| read.borrow().contains(&name)) {
-                    return mistake(format!(
-                        "{} is a file that this call reads, and writing would lose it: name another file to write",
-                        shown(name)
-                    ));
-                }
-                if is_text(name) {
-                    return mistake(format!(
-                        "{} is a text, and writing would lose it: name another file to write",
-                        shown(name)
-                    ));
-                }
-                write_whole(Path::new(name), content).or_else(|error| {
-                    mistake(format!(
-                        "{} can't be written ({error}): name a file in a folder that you may write to, with space left",
-                        shown(name)
-                    ))
-                })
+            Files::Disk { read, .. } if fs::canonicalize(name).is_ok_and(|name| read.borrow().contains(&name)) => {
+                mistake(format!(
+                    "{} is a file that this call reads, and writing would lose it: name another file to write",
+                    shown(name)
+                ))
             }
+            Files::Disk { .. } => write::whole(Path::new(name), content, made.holds),
         }
     }
-}
-
-/// Writes all of a file, or leaves what is there: beside it first, and then in its place. What is no plain file, or stands
-/// where nothing can be put beside it, is written as it is.
-pub fn write_whole(name: &Path, content: &[u8]) -> io::Result<()> {
-    let place = fs::canonicalize(name).unwrap_or_else(|_| name.into());
-    let about = fs::symlink_metadata(&place).ok();
-    if about.as_ref().is_some_and(|about| !about.is_file()) {
-        return fs::write(name, content);
-    }
-    if about.is_some() {
-        // Whoever may not write the file may not put another in its place.
-        fs::OpenOptions::new().write(true).open(&place)?;
-    }
-    let beside = place.with_file_name(format!(".rehearse-{}.part", std::process::id()));
-    let mut options = fs::OpenOptions::new();
-    let mut file = match options.write(true).create_new(true).open(&beside) {
-        Ok(file) => file,
-        Err(error) if error.kind() == ErrorKind::PermissionDenied && about.is_some() => {
-            return fs::write(name, content)
-        }
-        Err(error) => return Err(error),
-    };
-    let kept = about.map_or(Ok(()), |about| keep_rights(&beside, &about));
-    let written = kept.and_then(|()| file.write_all(content));
-    let written = written.and_then(|()| fs::rename(&beside, &place));
-    if written.is_err() {
-        let _ = fs::remove_file(&beside);
-    }
-    written
-}
-
-/// Gives a new file the rights, and where it can be done the owner, of the one whose place it takes. It is still empty.
-fn keep_rights(name: &Path, about: &fs::Metadata) -> io::Result<()> {
-    #[cfg(unix)]
-    {
-        use std::os::unix::fs::{chown, MetadataExt};
-        // Who may not give a file away keeps it.
-        let _ = chown(name, Some(about.uid()), Some(about.gid()));
-    }
-    fs::set_permissions(name, about.permissions())
 }
 
 /// What to say of a text that is given as a path.
@@ -256,23 +211,6 @@ pub fn as_bytes(bytes: Vec<u8>, name: &OsStr) -> Checked<Vec<u8>> {
         Some(why) => mistake(format!("{} {why}", shown(name))),
         None => Ok(bytes),
     }
-}
-
-/// Whether a file is there that somebody may have written by hand: text, but for hex. Its start tells.
-fn is_text(name: &OsStr) -> bool {
-    let is_file = fs::metadata(name).is_ok_and(|about| about.is_file());
-    let mut start = Vec::new();
-    let read = |file: fs::File| file.take(65_536).read_to_end(&mut start);
-    if !is_file || fs::File::open(name).and_then(read).is_err() {
-        return false;
-    }
-    // A letter may be cut at the end of what was read.
-    let cut = std::str::from_utf8(&start)
-        .err()
-        .filter(|error| error.error_len().is_none());
-    let text = cut.map_or(&start[..], |error| &start[..error.valid_up_to()]);
-    let is_hex = hex::is_hex(without_mark(text));
-    !is_hex && (plain_text(text).is_some() || other_letters(text).is_some())
 }
 
 /// A file's name as it is shown.

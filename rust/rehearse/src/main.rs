@@ -5,6 +5,7 @@
 
 mod answers;
 mod arguments;
+mod by_hand;
 mod commands;
 mod dates;
 mod drive;
@@ -22,13 +23,16 @@ mod mistake;
 mod nearest;
 mod not_asked;
 mod output;
+mod part;
 mod path_text;
 mod path_words;
 mod plan;
 mod report;
+mod rights;
 mod seen;
 mod sentences;
 mod signing;
+mod write;
 
 use std::process::ExitCode;
 

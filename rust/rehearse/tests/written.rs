@@ -141,6 +141,17 @@ fn a_text_is_not_written_over() {
     folder.write("table.txt", "interface 1 child up\n");
     folder.write("umlauts.txt", "# \u{fc}".repeat(40_000));
     folder.write("latin.txt", b"# a plan of K\xfchlhalle\nstation\n");
+    let plan = folder.text("plan.txt");
+    folder.write("page.txt", plan.replace("station", "\u{c}station"));
+    folder.write("colour.txt", plan.replace("station", "\u{1b}[1mstation\u{1b}[0m"));
+    folder.write("nul.txt", plan.replacen("station", "\0station", 1));
+    folder.write("start.txt", format!("\u{1}{plan}"));
+    folder.write(
+        "wide.txt",
+        plan.encode_utf16().flat_map(u16::to_le_bytes).collect::<Vec<u8>>(),
+    );
+    // The first letter that is no hex digit stands far behind.
+    folder.write("behind.txt", "00 ".repeat(30_000) + "station\n");
     for call in [
         "plan plan.txt -o good.txt",
         "sign good.txt --plan site.plan -o late.txt",
@@ -150,6 +161,12 @@ fn a_text_is_not_written_over() {
         "plan plan.txt -o table.txt",
         "plan plan.txt -o umlauts.txt",
         "plan plan.txt -o latin.txt",
+        "plan plan.txt -o page.txt",
+        "plan plan.txt -o colour.txt",
+        "plan plan.txt -o nul.txt",
+        "plan plan.txt -o start.txt",
+        "plan plan.txt -o wide.txt",
+        "plan plan.txt -o behind.txt",
     ] {
         let before = folder.read(call.split(' ').next_back().unwrap());
         let ran = folder.run(call);
@@ -159,11 +176,16 @@ fn a_text_is_not_written_over() {
         );
         assert_eq!(folder.read(call.split(' ').next_back().unwrap()), before);
     }
-    // Bytes and hex may be written over.
+    // Bytes and hex may be written over, also those of a header with a text behind it and others.
+    let text = plan.repeat(100);
+    folder.write("long.path", [folder.read("good.path"), text.into_bytes()].concat());
+    folder.write("other", common::Random(1).bytes(2_000));
     for call in [
         "plan plan.txt -o site.plan",
         "sign good.txt --plan plan.txt -o x.hex",
         "sign late.txt --plan plan.txt -o x.hex",
+        "reverse good.path --write long.path",
+        "reverse good.path --write other",
     ] {
         assert_eq!(folder.run(call).status, 0, "{call}");
     }
@@ -176,7 +198,7 @@ fn half_a_file_is_never_left() {
     let mut long = folder.read("good.path");
     long.resize(8 << 20, 7);
     folder.write("long", &long);
-    let before: &[u8] = b"\0as it was";
+    let before: &[u8] = b"\0\0\0\0as it was";
     folder.write("out", before);
     let call = format!("ulimit -f 1; trap '' XFSZ; {PROGRAM} reverse long --write out");
     let ran = Command::new("sh")
@@ -196,6 +218,20 @@ fn half_a_file_is_never_left() {
     );
     assert_eq!(folder.run("reverse long --write out").status, 0);
     assert_eq!(folder.read("out").len(), 8 << 20);
+}
+
+/// Calls that write one file at the same time all write it.
+#[test]
+fn a_file_is_written_by_several_calls_at_once() {
+    let folder = Folder::with_site();
+    let calls = "for call in 1 2 3 4 5 6; do $0 plan plan.txt -o shared & done; wait";
+    let ran = Command::new("sh")
+        .args(["-c", calls, PROGRAM])
+        .current_dir(&folder.0)
+        .output()
+        .unwrap();
+    assert!(ran.stderr.is_empty(), "{ran:?}");
+    assert_eq!(folder.read("shared"), folder.read("site.plan"));
 }
 
 /// A second hard link of what is read gets bytes of its own.
@@ -229,7 +265,8 @@ fn a_file_that_is_written_stays_what_it_is() {
     symlink("new", folder.0.join("dangling")).unwrap();
     assert_eq!(folder.run("plan plan.txt -o dangling").status, 0);
     assert_eq!(folder.read("new"), folder.read("site.plan"));
-    let call = format!("mkfifo pipe; cat pipe >got & {PROGRAM} plan plan.txt -o pipe; wait");
+    // Whoever reads the pipe is let go in any case.
+    let call = format!("mkfifo pipe; cat pipe >got & {PROGRAM} plan plan.txt -o pipe || : >pipe; wait");
     let ran = Command::new("sh")
         .args(["-c", &call])
         .current_dir(&folder.0)

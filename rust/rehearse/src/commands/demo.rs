@@ -2,11 +2,12 @@
 
 use super::Said;
 use crate::arguments::{Arguments, Form};
-use crate::files::{write_whole, Files};
+use crate::files::{Files, Made};
 use crate::json::Json;
 use crate::mistake::{mistake, Checked};
 use crate::output::printable;
 use crate::report::Report;
+use crate::write::{self, Holds};
 use std::ffi::{OsStr, OsString};
 use std::path::Path;
 use std::{fs, io};
@@ -70,7 +71,7 @@ const STEPS: [(&str, &str); 8] = [
 
 pub fn run(arguments: &Arguments, _files: &Files) -> Checked<Report> {
     match arguments.value("--write") {
-        Some(folder) => write(folder),
+        Some(folder) => write_site(folder),
         None => Ok(show()),
     }
 }
@@ -111,10 +112,22 @@ fn show() -> Report {
 fn site() -> Files {
     let files = Files::in_memory();
     for (name, content) in FILES {
+        let made = Made {
+            bytes: content.as_bytes(),
+            hex: "",
+            holds: holds(name),
+        };
         // The memory takes every file.
-        let _ = files.write(OsStr::new(name), content.as_bytes(), "");
+        let _ = files.write(OsStr::new(name), &made);
     }
     files
+}
+
+fn holds(name: &str) -> Holds {
+    match name {
+        "plan.txt" | "site.plan" => Holds::Keys,
+        _ => Holds::NoKeys,
+    }
 }
 
 fn typed(call: &str, files: &Files) -> Said {
@@ -145,30 +158,12 @@ fn indented(text: &str) -> String {
     text.lines().map(line).collect()
 }
 
-fn write(name: &OsStr) -> Checked<Report> {
+fn write_site(name: &OsStr) -> Checked<Report> {
     if name.is_empty() || name == "-" {
         return mistake("--write takes a folder: name one, as `rehearse demo --write site`");
     }
-    let (folder, files) = (Path::new(name), all_files()?);
-    fs::create_dir_all(folder).or_else(|error| cannot_write(folder, &error))?;
-    // Nothing is written where something of another's stands in the way.
-    for (name, content) in &files {
-        let name = folder.join(name);
-        let is_ours = match fs::read(&name) {
-            Ok(there) => there == *content,
-            Err(error) => error.kind() == io::ErrorKind::NotFound,
-        };
-        if !is_ours {
-            return mistake(format!(
-                "{} is there already and is not the example's: name another folder",
-                name.display()
-            ));
-        }
-    }
-    for (name, content) in &files {
-        let name = folder.join(name);
-        write_whole(&name, content).or_else(|error| cannot_write(&name, &error))?;
-    }
+    let files = all_files()?;
+    write_all(Path::new(name), &files)?;
     let names: Vec<&str> = files.iter().map(|&(name, _)| name).collect();
     let text = format!(
         "{} written to {}\n",
@@ -180,9 +175,36 @@ fn write(name: &OsStr) -> Checked<Report> {
     Ok(report)
 }
 
-fn cannot_write(name: &Path, error: &io::Error) -> Checked<()> {
-    mistake(format!(
-        "{} can't be written ({error}): name a folder that you may write to",
-        name.display()
-    ))
+/// Writes what is not there yet. Nothing is written where something of another's stands in the way.
+fn write_all(folder: &Path, files: &[(&str, Vec<u8>)]) -> Checked<()> {
+    if let Err(error) = fs::create_dir_all(folder) {
+        return mistake(format!(
+            "{} can't be made ({error}): name another folder",
+            folder.display()
+        ));
+    }
+    let mut missing = Vec::new();
+    for (name, content) in files {
+        if !is_there(&folder.join(name), content)? {
+            missing.push((name, content));
+        }
+    }
+    let mut missing = missing.into_iter();
+    missing.try_for_each(|(name, content)| write::whole(&folder.join(name), content, holds(name)))
+}
+
+/// Whether a file of the example is there.
+fn is_there(name: &Path, content: &[u8]) -> Checked<bool> {
+    let is_example = |about: &fs::Metadata| {
+        let may_be = about.is_file() && about.len() == content.len() as u64;
+        may_be && fs::read(name).is_ok_and(|there| there == content)
+    };
+    match fs::metadata(name) {
+        Err(error) if error.kind() == io::ErrorKind::NotFound => Ok(false),
+        Ok(about) if is_example(&about) => Ok(true),
+        _ => mistake(format!(
+            "{} is there already and is not the example's: name another folder",
+            name.display()
+        )),
+    }
 }

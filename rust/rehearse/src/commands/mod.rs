@@ -14,7 +14,7 @@ mod step;
 
 use crate::arguments::{Arguments, Form};
 use crate::dates;
-use crate::files::{shown, Files, Spelling};
+use crate::files::{shown, Files, Made, Spelling};
 use crate::hex;
 use crate::json::Json;
 use crate::mistake::{Checked, Mistake};
@@ -23,6 +23,7 @@ use crate::output::printable;
 use crate::report::Report;
 use crate::seen;
 use crate::sentences::{self, Question};
+use crate::write::Holds;
 use std::ffi::{OsStr, OsString};
 
 /// What a call writes and how it ends.
@@ -208,12 +209,21 @@ fn left_file(arguments: &Arguments) -> Checked<Option<&OsStr>> {
     }
 }
 
-fn write_left(file: Option<&OsStr>, files: &Files, path: &[u8], report: &mut Report) -> Checked<()> {
-    if let Some(name) = file {
-        files.write(name, path, &path_lines(path))?;
-        report.written(name);
+/// Writes the path that a call left. What was read as a path may be a plan, whose keys are in what is left too.
+fn write_left(file: Option<&OsStr>, files: &Files, [read, left]: [&[u8]; 2], report: &mut Report) -> Checked<()> {
+    if file.is_none() {
+        return Ok(());
     }
-    Ok(())
+    let holds = match seen::plan_as_path(read) {
+        true => Holds::Keys,
+        false => Holds::NoKeys,
+    };
+    let made = Made {
+        bytes: left,
+        hex: &path_lines(left),
+        holds,
+    };
+    write_made(file, files, &made, report)
 }
 
 /// A path as hex text, a line for each of its fields.
@@ -239,12 +249,12 @@ fn made_word(file: Option<&OsStr>) -> &'static str {
     }
 }
 
-fn write_made(file: Option<&OsStr>, files: &Files, bytes: &[u8], hex: &str, report: &mut Report) -> Checked<()> {
+fn write_made(file: Option<&OsStr>, files: &Files, made: &Made<'_>, report: &mut Report) -> Checked<()> {
     match file {
         None => {}
-        Some(name) if name == "-" => report.text = hex.into(),
+        Some(name) if name == "-" => report.text = made.hex.into(),
         Some(name) => {
-            files.write(name, bytes, hex)?;
+            files.write(name, made)?;
             report.written(name);
         }
     }

@@ -3,7 +3,7 @@
 use super::{made_file, made_word, no_spelling, spelling, write_made};
 use crate::answers;
 use crate::arguments::{Arguments, Form};
-use crate::files::{shown, Files};
+use crate::files::{shown, Files, Made};
 use crate::hex;
 use crate::itinerary::{self, Read};
 use crate::json::Json;
@@ -11,6 +11,7 @@ use crate::mistake::Checked;
 use crate::plan;
 use crate::report::{counted, Report};
 use crate::seen;
+use crate::write::Holds;
 use standard_path::JourneyError;
 use std::ffi::OsStr;
 
@@ -53,9 +54,17 @@ fn write(arguments: &Arguments, files: &Files) -> Checked<Report> {
     );
     report.member("stations", Json::number(stations.len()));
     report.member("fits_some_path", Json::Flag(refused.is_none()));
-    report.member("plan", Json::text(hex::to_hex(&bytes)));
+    if file.is_none() {
+        // Keys that go to a file are not printed too.
+        report.member("plan", Json::text(hex::to_hex(&bytes)));
+    }
     report.notes.extend(refused);
-    write_made(file, files, &bytes, &hex::lines(&bytes, []), &mut report)?;
+    let made = Made {
+        bytes: &bytes,
+        hex: &hex::lines(&bytes, []),
+        holds: Holds::Keys,
+    };
+    write_made(file, files, &made, &mut report)?;
     Ok(report)
 }
 

@@ -31,6 +31,6 @@ pub fn run(arguments: &Arguments, files: &Files) -> Checked<Report> {
         ));
     }
     report.notes = notes;
-    write_left(file, files, &path, &mut report)?;
+    write_left(file, files, [&before, &path], &mut report)?;
     Ok(report)
 }

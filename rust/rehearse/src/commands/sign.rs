@@ -5,7 +5,7 @@ use super::{made_file, made_word, no_spelling, not_a_path, path_lines, spelling,
 use crate::answers::{self, Answer};
 use crate::arguments::{Arguments, Form};
 use crate::dates;
-use crate::files::{shown, Files};
+use crate::files::{shown, Files, Made};
 use crate::header::Header;
 use crate::hex;
 use crate::itinerary::{self, Read};
@@ -14,6 +14,7 @@ use crate::mistake::{mistake, Checked};
 use crate::path_text::{self, MOST_BEHIND};
 use crate::report::{counted, Report};
 use crate::signing::{self, Signed};
+use crate::write::Holds;
 use crate::{path_words, plan};
 use standard_path::{expiration, HeaderError};
 use std::ffi::OsStr;
@@ -68,7 +69,12 @@ fn write(arguments: &Arguments, files: &Files) -> Checked<Report> {
         report.notes.push(note);
         report.status = 1;
     }
-    write_made(file, files, &signed.bytes, &path_lines(&signed.bytes), &mut report)?;
+    let made = Made {
+        bytes: &signed.bytes,
+        hex: &path_lines(&signed.bytes),
+        holds: Holds::NoKeys,
+    };
+    write_made(file, files, &made, &mut report)?;
     Ok(report)
 }
 

@@ -114,6 +114,6 @@ fn call(
     report.member("named_hops", answer.hops_json());
     report.notes = notes;
     report.path_left(&before, &path);
-    write_left(file, files, &path, &mut report)?;
+    write_left(file, files, [&before, &path], &mut report)?;
     Ok(report)
 }
