@@ -1,6 +1,7 @@
 //! Bytes as hex text, and back.
 
 use crate::mistake::{mistake, Checked};
+use crate::output;
 
 pub fn to_hex(bytes: &[u8]) -> String {
     bytes.iter().map(|byte| format!("{byte:02x}")).collect()
@@ -21,7 +22,7 @@ pub fn first_wrong(text: &[u8]) -> Option<String> {
     let place = before.iter().rev().take_while(|&&byte| byte != b'\n').count() + 1;
     let letter = String::from_utf8_lossy(&rest[..rest.len().min(4)]).chars().next();
     let name = match letter {
-        Some(letter) if !letter.is_control() && letter != char::REPLACEMENT_CHARACTER => format!("`{letter}`"),
+        Some(letter) if !letter.is_ascii_control() && letter != char::REPLACEMENT_CHARACTER => output::letter(letter),
         _ => format!("the byte {:02x}", text[at]),
     };
     Some(format!(
@@ -92,6 +93,20 @@ mod tests {
         assert!(exactly::<2>("0a0", "t").is_err());
         assert!(exactly::<2>("0a 0b", "t").is_err());
         assert_eq!(exactly::<2>("0a0b", "t").unwrap(), [10, 11]);
+    }
+
+    #[test]
+    fn a_wrong_character_is_named() {
+        for (text, name) in [
+            (&b"0g"[..], "character 2 of line 1 is `g` "),
+            (b"00\n0\xc2\xa0", "character 2 of line 2 is U+00A0 "),
+            ("\u{202e}".as_bytes(), "character 1 of line 1 is U+202E "),
+            (b"0\x00", "character 2 of line 1 is the byte 00 "),
+            (b"0\xff", "character 2 of line 1 is the byte ff "),
+        ] {
+            let said = first_wrong(text).unwrap();
+            assert!(said.starts_with(name), "{said}");
+        }
     }
 
     #[test]
