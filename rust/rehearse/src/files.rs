@@ -3,6 +3,8 @@
 use crate::hex;
 use crate::kinds::{self, Kind};
 use crate::mistake::{mistake, Checked};
+use crate::output::shortened;
+use crate::quoting::{left_out, may_hold_key};
 use std::cell::{Cell, RefCell};
 use std::collections::{BTreeMap, BTreeSet};
 use std::ffi::{OsStr, OsString};
@@ -275,12 +277,16 @@ fn is_text(name: &OsStr) -> bool {
     !is_hex && (plain_text(text).is_some() || other_letters(text).is_some())
 }
 
-/// A file's name as it is shown.
+/// A file's name as it is shown. One that may hold a key is shown only if there is such a file: it is no secret then.
 pub fn shown(name: &OsStr) -> String {
     if name == "-" {
         return "standard input".into();
     }
-    name.to_string_lossy().into_owned()
+    let text = name.to_string_lossy();
+    match may_hold_key(&text) && !Path::new(name).exists() {
+        true => left_out("name", &text),
+        false => shortened(&text),
+    }
 }
 
 fn read_file(name: &OsStr) -> Checked<Vec<u8>> {

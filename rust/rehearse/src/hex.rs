@@ -47,21 +47,26 @@ pub fn from_hex(text: &[u8], of: &str) -> Checked<Vec<u8>> {
     Ok(digits.chunks(2).map(|pair| pair[0] << 4 | pair[1]).collect())
 }
 
-/// So many bytes from hex digits without white space.
-pub fn exactly<const N: usize>(text: &str, of: &str) -> Checked<[u8; N]> {
-    let wrong = || {
-        let letter = text.chars().find(|letter| !letter.is_ascii_hexdigit());
-        let why = match letter {
-            _ if text.starts_with("0x") => "leave out the `0x`".into(),
-            Some(letter) => format!("`{letter}` is none"),
-            None => format!("there are {}", text.len()),
-        };
-        mistake(format!("{of}: `{text}` is not {} hex digits: {why}", 2 * N))
-    };
-    if text.len() != 2 * N || !text.bytes().all(|byte| byte.is_ascii_hexdigit()) {
-        return wrong();
+/// So many bytes from hex digits, or what to say behind "write 32 hex digits" if they are not. They may be a key's, so that
+/// none is quoted.
+pub fn exactly<const N: usize>(text: &str) -> Result<[u8; N], String> {
+    let is_wrong = |letter: char| !letter.is_ascii_hexdigit() && !letter.is_whitespace();
+    if let Some((at, wrong)) = text.chars().enumerate().find(|&(_, letter)| is_wrong(letter)) {
+        let is_prefix = matches!(text.get(..2), Some("0x" | "0X"));
+        let advice = if is_prefix { " (leave out the `0x`)" } else { "" };
+        let (place, count, wrong) = (at + 1, text.chars().count(), output::letter(wrong));
+        return Err(format!(": character {place} of {count} is {wrong}{advice}"));
     }
-    from_hex(text.as_bytes(), of)?.try_into().or_else(|_| wrong())
+    let digits = || text.chars().filter_map(|letter| letter.to_digit(16));
+    let count = digits().count();
+    if count != 2 * N {
+        return Err(format!(", not {count}"));
+    }
+    let mut bytes = [0; N];
+    for (at, digit) in digits().enumerate() {
+        bytes[at / 2] = bytes[at / 2] << 4 | digit as u8;
+    }
+    Ok(bytes)
 }
 
 /// Hex text with a line for each part; the parts' sizes, then lines of 32 bytes.
@@ -90,9 +95,24 @@ mod tests {
         assert_eq!(from_hex(b"", "t").unwrap(), []);
         assert!(from_hex(b"0a0", "t").is_err());
         assert!(from_hex(b"0g", "t").is_err());
-        assert!(exactly::<2>("0a0", "t").is_err());
-        assert!(exactly::<2>("0a 0b", "t").is_err());
-        assert_eq!(exactly::<2>("0a0b", "t").unwrap(), [10, 11]);
+    }
+
+    #[test]
+    fn so_many_digits_are_read_or_it_is_said_why_not() {
+        assert_eq!(exactly("0a0B"), Ok([10, 11]));
+        assert_eq!(exactly(" 0a\u{a0}0b\n"), Ok([10, 11]));
+        for (text, why) in [
+            ("", ", not 0"),
+            ("0a0", ", not 3"),
+            ("0a0b0", ", not 5"),
+            ("0a0g", ": character 4 of 4 is `g`"),
+            ("0a 0é", ": character 5 of 5 is `é`"),
+            ("\"0a0b\"", ": character 1 of 6 is `\"`"),
+            ("0x0a0b", ": character 2 of 6 is `x` (leave out the `0x`)"),
+            ("0a0b\u{200b}", ": character 5 of 5 is U+200B"),
+        ] {
+            assert_eq!(exactly::<2>(text), Err(why.into()), "{text}");
+        }
     }
 
     #[test]

@@ -1,6 +1,8 @@
 //! The lines of a text form: words, with the number of their line. `#` starts a comment; empty lines are free.
 
+use crate::hex;
 use crate::mistake::{mistake, Checked};
+use crate::quoting::quoted;
 
 pub struct Line<'a> {
     /// The text's name, for mistakes.
@@ -76,13 +78,14 @@ impl<'a> Line<'a> {
             .filter(|&number| number <= highest && !word.starts_with('+'));
         match number {
             Some(number) => Ok(number),
-            None => self.wrong(format!("`{word}` is no whole number from 0 to {highest}")),
+            None => self.wrong(format!("{} is no whole number from 0 to {highest}", quoted(word))),
         }
     }
 
-    /// So many bytes as hex digits.
-    pub fn hex<const N: usize>(&self, word: &str) -> Checked<[u8; N]> {
-        crate::hex::exactly(word, &self.place())
+    /// So many bytes as hex digits; `name` is the word before them.
+    pub fn hex<const N: usize>(&self, name: &str, word: &str) -> Checked<[u8; N]> {
+        let wrong = |why| self.wrong(format!("write {} hex digits behind `{name}`{why}", 2 * N));
+        hex::exactly(word).or_else(wrong)
     }
 }
 

@@ -25,6 +25,7 @@ mod output;
 mod path_text;
 mod path_words;
 mod plan;
+mod quoting;
 mod report;
 mod seen;
 mod sentences;

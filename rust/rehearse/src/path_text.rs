@@ -5,6 +5,7 @@ use crate::hex::from_hex;
 use crate::hop_text::{hop, reserved_flags, HopText};
 use crate::lines::{lines, once, Line};
 use crate::mistake::{mistake, Checked};
+use crate::quoting::quoted;
 
 /// The most bytes behind a header that the text form takes, both ways.
 pub const MOST_BEHIND: usize = 1_048_576;
@@ -63,8 +64,9 @@ impl PathDraft {
             "reserved" => (&mut self.reserved, 63),
             _ => {
                 return line.wrong(format!(
-                "`{word}` is not known here: below `path` stand curr_inf, curr_hf and reserved, and a segment starts \
-                     with the word `segment`"
+                "{} is not known here: below `path` stand curr_inf, curr_hf and reserved, and a segment starts with \
+                     the word `segment`",
+                quoted(word)
             ))
             }
         };
@@ -92,7 +94,7 @@ impl SegmentDraft {
             "cons_dir" => once(&mut self.cons_dir, yes_or_no(line)?, line, "`cons_dir`"),
             "peering" => once(&mut self.peering, yes_or_no(line)?, line, "`peering`"),
             "reserved" => {
-                let [byte] = line.hex(line.only("reserved 00")?)?;
+                let [byte] = line.hex("reserved", line.only("reserved 00")?)?;
                 once(&mut self.reserved, byte, line, "`reserved`")
             }
             "reserved_flags" => {
@@ -110,8 +112,9 @@ impl SegmentDraft {
                 Ok(())
             }
             word => line.wrong(format!(
-                "`{word}` is not known here: below `segment` stand cons_dir, peering, seg_id or beta, timestamp, \
-                 reserved_flags, reserved and hop"
+                "{} is not known here: below `segment` stand cons_dir, peering, seg_id or beta, timestamp, \
+                 reserved_flags, reserved and hop",
+                quoted(word)
             )),
         }
     }
@@ -218,8 +221,8 @@ impl Reader {
                 Some(Block::Path(path)) => path.read(line),
                 Some(Block::Segment(segment)) => segment.read(line),
                 None => line.wrong(format!(
-                    "write `path` or `segment` on a line of its own before `{}`",
-                    line.words[0]
+                    "write `path` or `segment` on a line of its own before {}",
+                    quoted(line.words[0])
                 )),
             },
         }
@@ -248,5 +251,5 @@ fn yes_or_no(line: &Line<'_>) -> Checked<bool> {
 /// A number of four hex digits.
 fn two_bytes(line: &Line<'_>) -> Checked<u16> {
     let word = line.only(&format!("{} 1234", line.words[0]))?;
-    Ok(u16::from_be_bytes(line.hex(word)?))
+    Ok(u16::from_be_bytes(line.hex(line.words[0], word)?))
 }

@@ -7,6 +7,7 @@ use crate::itinerary::{self, MOST_RECORDS, TOO_MANY};
 use crate::kinds::{self, Kind};
 use crate::lines::{lines, once, Line};
 use crate::mistake::{mistake, Checked};
+use crate::quoting::quoted;
 use std::ffi::OsStr;
 
 #[derive(Debug, Clone, PartialEq, Eq)]
@@ -33,14 +34,15 @@ impl Draft {
             }
             "key" => {
                 let word = line.only("key 000102030405060708090a0b0c0d0e0f")?;
-                once(&mut self.key, line.hex(word)?, line, "`key`")
+                once(&mut self.key, line.hex("key", word)?, line, "`key`")
             }
             "interface" => {
                 self.interfaces.push(interfaces::from_words(line, &line.words[1..])?);
                 Ok(())
             }
             word => line.wrong(format!(
-                "`{word}` is not known here: a plan has the words station, arrival, key and interface"
+                "{} is not known here: a plan has the words station, arrival, key and interface",
+                quoted(word)
             )),
         }
     }

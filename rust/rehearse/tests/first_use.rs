@@ -367,23 +367,23 @@ fn words_that_are_almost_right_are_named() {
         ("help sing", "`sing` is not a command of rehearse, but sign is: see"),
         (
             "journey a b --earlyest 1",
-            "--earlyest is not an option of this command, but --earliest is: see",
+            "`--earlyest` is not an option of this command, but --earliest is: see",
         ),
         (
             "reverse good.path -o x",
-            "-o is not an option of this command, but --write is: see",
+            "`-o` is not an option of this command, but --write is: see",
         ),
         (
             "plan plan.txt --write x",
-            "--write is not an option of this command, but -o is: see",
+            "`--write` is not an option of this command, but -o is: see",
         ),
         (
             "sign good.txt --output x",
-            "--output is not an option of this command, but -o is: see",
+            "`--output` is not an option of this command, but -o is: see",
         ),
         (
             "show -x.path",
-            "-x.path is not an option of this command; a file of that name is written ./-x.path: see",
+            "`-x.path` is not an option of this command; a file of that name is written with ./ before it: see",
         ),
         ("expire", "`expire` is not a command of rehearse: see"),
         (
@@ -493,10 +493,18 @@ fn words_that_are_almost_right_are_named() {
         (
             "plan",
             "station\nkey 0x30\n",
-            "`0x30` is not 32 hex digits: leave out the `0x`",
+            "line 2: write 32 hex digits behind `key`: character 2 of 4 is `x` (leave out the `0x`)",
         ),
-        ("plan", "station\nkey 3g\n", "`3g` is not 32 hex digits: `g` is none"),
-        ("plan", "station\nkey 30\n", "`30` is not 32 hex digits: there are 2"),
+        (
+            "plan",
+            "station\nkey 3g\n",
+            "line 2: write 32 hex digits behind `key`: character 2 of 2 is `g`",
+        ),
+        (
+            "plan",
+            "station\nkey 30\n",
+            "line 2: write 32 hex digits behind `key`, not 2",
+        ),
     ] {
         folder.write("text", text);
         let ran = folder.run(&format!("{command} text -o x"));
@@ -583,8 +591,12 @@ fn half_a_key_is_no_key() {
             "step good.path --table 1:parent:up --key @{key} --interface 0 {AT}"
         ))
     };
-    assert!(step("half").err.contains("half holds 8 bytes and no key"));
-    assert!(step("odd").err.contains("odd number"));
+    assert!(step("half")
+        .err
+        .contains("--key: half: write 32 hex digits, not 16; 16 bytes do as well"));
+    assert!(step("odd")
+        .err
+        .contains("--key: odd: write 32 hex digits, not 17; 16 bytes do as well"));
     assert_eq!(step("whole").status, 0);
     folder.write("marked", "\u{feff}30a1f2c4b5d697e8091a2b3c4d5e6f70\n");
     assert_eq!(step("marked").status, 0);
@@ -594,7 +606,7 @@ fn half_a_key_is_no_key() {
 #[test]
 fn what_is_quoted_is_short_and_plain() {
     let folder = Folder::with_site();
-    folder.write("long", "a".repeat(2_000_000));
+    folder.write("long", "n".repeat(2_000_000));
     let ran = folder.run("sign long -o x");
     assert!(ran.status == 2 && ran.err.len() < 1_200, "{}", ran.err.len());
     assert!(ran.err.contains("letters left out"));

@@ -7,6 +7,8 @@ mod journey;
 mod names;
 mod plan;
 mod reverse;
+#[cfg(test)]
+mod secrets;
 mod show;
 mod sign;
 mod station;
@@ -20,6 +22,7 @@ use crate::json::Json;
 use crate::mistake::{Checked, Mistake};
 use crate::nearest::nearest;
 use crate::output::printable;
+use crate::quoting::quoted;
 use crate::report::Report;
 use crate::seen;
 use crate::sentences::{self, Question};
@@ -85,7 +88,8 @@ pub fn run(words: &[OsString], files: &Files) -> Said {
         let word = name.to_string_lossy();
         let meant = nearest(&word, COMMANDS.iter().map(|command| command.form.command));
         let meant = meant.map_or(String::new(), |name| format!(", but {name} is"));
-        let sentence = format!("`{word}` is not a command of rehearse{meant}: see `rehearse --help`");
+        let word = quoted(&word);
+        let sentence = format!("{word} is not a command of rehearse{meant}: see `rehearse --help`");
         return wrong(None, &Mistake::new(sentence), as_json);
     };
     let words = &words[1..];
