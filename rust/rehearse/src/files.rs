@@ -92,12 +92,15 @@ impl Files {
     /// A path header, raw or as hex text.
     pub fn read_path(&self, name: &OsStr, spelling: Spelling) -> Checked<Vec<u8>> {
         let bytes = self.read(name)?;
-        if let Some(read) = spelled(&bytes, spelling, name) {
-            return read;
+        let text = plain_text(&bytes);
+        // A plan's text has keys in it. It is not shown as a path, whatever the call says of its bytes.
+        if let Some(text) = text.as_deref().filter(|text| matches!(kinds::of(text), Kind::Plan)) {
+            return mistake(no_header(text, name));
         }
-        match plain_text(&bytes) {
-            Some(text) => mistake(no_header(&text, name)),
-            None => as_bytes(bytes, name),
+        match (spelled(&bytes, spelling, name), text) {
+            (Some(read), _) => read,
+            (None, Some(text)) => mistake(no_header(&text, name)),
+            (None, None) => as_bytes(bytes, name),
         }
     }
 

@@ -90,10 +90,11 @@ fn a_plan_in_the_place_of_a_path_is_named() {
         "reverse site.plan",
         "sign --show site.plan",
     ] {
-        assert!(folder.run(call).err.starts_with(note), "{call}");
+        let ran = folder.run(call);
+        assert_eq!((ran.status, &ran.out[..], &ran.err[..]), (2, "", note), "{call}");
     }
     let ran = folder.run(&format!("step site.plan {HALL_A} --interface 0 {AT}"));
-    assert!(ran.err.starts_with(note), "{ran:?}");
+    assert_eq!((ran.status, &ran.out[..], &ran.err[..]), (2, "", note));
     let ran = folder.run(&format!("journey site.plan good.path {READINGS}"));
     assert!(
         ran.out.contains("    seen         the path is a plan by its bytes"),

@@ -3,7 +3,7 @@
 mod common;
 
 use common::json::parse;
-use common::{to_hex, Folder, Ran, Random, READINGS};
+use common::{from_hex, to_hex, Folder, Ran, Random, READINGS};
 
 /// Letters that are not seen, or that move those that are.
 const UNSEEN: [char; 23] = [
@@ -445,6 +445,55 @@ fn a_key_in_the_wrong_place_of_a_text_is_not_told() {
         &["show", "plan.txt"],
         "plan.txt is the text form of a plan and no path",
     );
+}
+
+#[test]
+fn a_plan_or_a_key_in_the_place_of_a_path_is_not_told() {
+    let folder = Folder::with_site();
+    let plan = folder.read("site.plan");
+    folder.write("plan.hex", to_hex(&plan));
+    // A plan that is not sound has keys as well.
+    folder.write("cut.plan", &plan[..60]);
+    folder.write("slip.plan", [&plan[..9], &[7], &plan[10..]].concat());
+    folder.write("late.plan", [&plan[..35], &[7], &plan[36..]].concat());
+    folder.write("key", from_hex(KEY));
+    folder.write("key.hex", KEY);
+    for (name, says) in [
+        (
+            "site.plan",
+            "site.plan is a plan by its bytes: `rehearse plan --show` shows it",
+        ),
+        ("site.plan --raw", "site.plan is a plan by its bytes"),
+        ("plan.hex", "plan.hex is a plan by its bytes"),
+        ("plan.hex --hex", "plan.hex is a plan by its bytes"),
+        ("cut.plan", "cut.plan is a plan by its bytes"),
+        ("slip.plan", "slip.plan is a plan by its bytes"),
+        ("late.plan", "late.plan is a plan by its bytes"),
+        ("plan.txt", "plan.txt is the text form of a plan and no path"),
+        ("plan.txt --raw", "plan.txt is the text form of a plan and no path"),
+        (
+            "key",
+            "key has 16 bytes, as a key has: a path with a hop has 24 or more",
+        ),
+        ("key --raw", "key has 16 bytes, as a key"),
+        ("key.hex", "key.hex has 16 bytes, as a key"),
+    ] {
+        for command in [
+            "show",
+            "reverse",
+            "expiration",
+            "sign --show",
+            "step",
+            "ingress",
+            "egress",
+        ] {
+            let mut call: Vec<&str> = command.split(' ').chain(name.split(' ')).collect();
+            if matches!(command, "step" | "ingress" | "egress") {
+                call.extend("--table 1:child:up --key @key --interface 0 --now 1".split(' '));
+            }
+            assert_silent(&folder, &call, says);
+        }
+    }
 }
 
 #[test]

@@ -17,15 +17,17 @@ mod step;
 use crate::arguments::{Arguments, Form};
 use crate::dates;
 use crate::files::{shown, Files, Spelling};
+use crate::header::Header;
 use crate::hex;
 use crate::json::Json;
-use crate::mistake::{Checked, Mistake};
+use crate::mistake::{mistake, Checked, Mistake};
 use crate::nearest::nearest;
 use crate::output::printable;
 use crate::quoting::quoted;
 use crate::report::Report;
 use crate::seen;
 use crate::sentences::{self, Question};
+use standard_path::ForwardingKey;
 use std::ffi::{OsStr, OsString};
 
 /// What a call writes and how it ends.
@@ -178,21 +180,27 @@ fn no_spelling(arguments: &Arguments) -> Checked<Spelling> {
 
 const PATH: &str = "the file with the path header";
 
-/// The path, and a note if it looks like the wrong file.
-fn read_path(arguments: &Arguments, files: &Files, notes: &mut Vec<String>) -> Checked<Vec<u8>> {
-    let name = arguments.file(0, PATH)?;
-    let path = files.read_path(name, spelling(arguments)?)?;
-    notes.extend(not_a_path(&path, name));
-    Ok(path)
+/// A path whose bytes are to be shown.
+fn read_path(arguments: &Arguments, files: &Files) -> Checked<Vec<u8>> {
+    path_to_show(files, arguments.file(0, PATH)?, spelling(arguments)?)
 }
 
-/// A note on bytes that would do as a plan.
-fn not_a_path(path: &[u8], name: &OsStr) -> Option<String> {
-    let note = || {
-        let name = shown(name);
-        format!("{name} is a plan by its bytes: `rehearse plan --show` shows it")
-    };
-    seen::plan_as_path(path).then(note)
+/// The same by its file's name. A plan or a key in its place would be shown with it, and is a mistake.
+fn path_to_show(files: &Files, name: &OsStr, spelling: Spelling) -> Checked<Vec<u8>> {
+    let path = files.read_path(name, spelling)?;
+    if seen::plan_as_path(&path) {
+        return mistake(format!(
+            "{} is a plan by its bytes: `rehearse plan --show` shows it",
+            shown(name)
+        ));
+    }
+    if path.len() == size_of::<ForwardingKey>() && Header(&path).hops() > 0 {
+        return mistake(format!(
+            "{} has 16 bytes, as a key has: a path with a hop has 24 or more",
+            shown(name)
+        ));
+    }
+    Ok(path)
 }
 
 /// The reading of a clock, and a note if it may have been meant otherwise.
@@ -222,7 +230,7 @@ fn write_left(file: Option<&OsStr>, files: &Files, path: &[u8], report: &mut Rep
 
 /// A path as hex text, a line for each of its fields.
 fn path_lines(path: &[u8]) -> String {
-    hex::lines(path, crate::header::Header(path).sizes())
+    hex::lines(path, Header(path).sizes())
 }
 
 /// Where a command that makes a file writes it: a file, `-` for hex text on standard output, or nowhere with `--json`.
