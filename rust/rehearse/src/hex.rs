@@ -4,7 +4,15 @@ use crate::mistake::{mistake, Checked};
 use crate::output;
 
 pub fn to_hex(bytes: &[u8]) -> String {
-    bytes.iter().map(|byte| format!("{byte:02x}")).collect()
+    let mut text = String::with_capacity(2 * bytes.len());
+    push_hex(bytes, &mut text);
+    text
+}
+
+fn push_hex(bytes: &[u8], text: &mut String) {
+    for digit in bytes.iter().flat_map(|byte| [byte >> 4, byte & 15]) {
+        text.push(char::from(b"0123456789abcdef"[usize::from(digit)]));
+    }
 }
 
 /// Whether these bytes could be hex text: digits and white space only.
@@ -16,10 +24,11 @@ pub fn is_hex(text: &[u8]) -> bool {
 /// The first character that hex text does not have, with its place.
 pub fn first_wrong(text: &[u8]) -> Option<String> {
     let at = text.iter().position(|byte| !is_hex(&[*byte]))?;
+    let is_end = |at: &usize| text[*at] == b'\n' || text[*at] == b'\r' && text.get(at + 1) != Some(&b'\n');
+    let line = (0..at).filter(is_end).count() + 1;
     // All before it is ASCII, so that a byte is a character there.
-    let (before, rest) = text.split_at(at);
-    let line = before.split(|&byte| byte == b'\n').count();
-    let place = before.iter().rev().take_while(|&&byte| byte != b'\n').count() + 1;
+    let place = at - (0..at).rev().find(is_end).map_or(0, |end| end + 1) + 1;
+    let rest = &text[at..];
     let letter = String::from_utf8_lossy(&rest[..rest.len().min(4)]).chars().next();
     let name = match letter {
         Some(letter) if !letter.is_ascii_control() && letter != char::REPLACEMENT_CHARACTER => output::letter(letter),
@@ -36,15 +45,18 @@ pub fn from_hex(text: &[u8], of: &str) -> Checked<Vec<u8>> {
     if let Some(why) = first_wrong(text) {
         return mistake(format!("{of}: {why}"));
     }
-    let digits = text.iter().filter_map(|&byte| char::from(byte).to_digit(16));
-    let digits: Vec<u8> = digits.map(|digit| digit as u8).collect();
-    if digits.len() % 2 == 1 {
+    let mut digits = text.iter().filter_map(|&byte| char::from(byte).to_digit(16));
+    let count = digits.clone().count();
+    if count % 2 == 1 {
         return mistake(format!(
-            "{of}: {} hex digits are an odd number: a byte has two, so that one is missing or one too many",
-            digits.len()
+            "{of}: {count} hex digits are an odd number: a byte has two, so that one is missing or one too many"
         ));
     }
-    Ok(digits.chunks(2).map(|pair| pair[0] << 4 | pair[1]).collect())
+    let mut bytes = Vec::with_capacity(count / 2);
+    while let (Some(high), Some(low)) = (digits.next(), digits.next()) {
+        bytes.push((high << 4 | low) as u8);
+    }
+    Ok(bytes)
 }
 
 /// So many bytes from hex digits, or what to say behind "write 32 hex digits" if they are not. They may be a key's, so that
@@ -71,14 +83,14 @@ pub fn exactly<const N: usize>(text: &str) -> Result<[u8; N], String> {
 
 /// Hex text with a line for each part; the parts' sizes, then lines of 32 bytes.
 pub fn lines(bytes: &[u8], sizes: impl IntoIterator<Item = usize>) -> String {
-    let mut text = String::new();
+    let mut text = String::with_capacity(2 * bytes.len() + bytes.len() / 32 + 128);
     let mut rest = bytes;
     for size in sizes.into_iter().chain(std::iter::repeat(32)) {
         if rest.is_empty() {
             break;
         }
         let (part, behind) = rest.split_at(size.min(rest.len()));
-        text += &to_hex(part);
+        push_hex(part, &mut text);
         text.push('\n');
         rest = behind;
     }
@@ -120,6 +132,8 @@ mod tests {
         for (text, name) in [
             (&b"0g"[..], "character 2 of line 1 is `g` "),
             (b"00\n0\xc2\xa0", "character 2 of line 2 is U+00A0 "),
+            (b"00\r\n0g", "character 2 of line 2 is `g` "),
+            (b"00\r\r0\rg", "character 1 of line 4 is `g` "),
             ("\u{202e}".as_bytes(), "character 1 of line 1 is U+202E "),
             (b"0\x00", "character 2 of line 1 is the byte 00 "),
             (b"0\xff", "character 2 of line 1 is the byte ff "),

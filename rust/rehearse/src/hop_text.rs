@@ -99,6 +99,7 @@ mod tests {
         let line = Line {
             of: "t",
             number: 1,
+            said: "",
             words: vec![],
         };
         for (word, exp_time) in [

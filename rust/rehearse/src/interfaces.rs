@@ -72,6 +72,7 @@ fn from_inline(entry: &str) -> Checked<Interface> {
     let line = Line {
         of: "--table",
         number: 1,
+        said: "",
         words: Vec::new(),
     };
     from_words(&line, &words).or_else(|_| {

@@ -210,13 +210,7 @@ impl Reader {
                 Ok(())
             }
             [word @ ("path" | "segment"), ..] => line.wrong(format!("write `{word}` alone; a name goes behind a #")),
-            ["behind", ref words @ ..] => {
-                self.behind.extend(from_hex(words.concat().as_bytes(), &line.place())?);
-                match self.behind.len() > MOST_BEHIND {
-                    true => line.wrong("there are more than 1,048,576 bytes behind the header: leave some out"),
-                    false => Ok(()),
-                }
-            }
+            ["behind", ..] => self.read_behind(line),
             _ => match &mut self.block {
                 Some(Block::Path(path)) => path.read(line),
                 Some(Block::Segment(segment)) => segment.read(line),
@@ -226,6 +220,18 @@ impl Reader {
                 )),
             },
         }
+    }
+
+    fn read_behind(&mut self, line: &Line<'_>) -> Checked<()> {
+        let said = line.said.trim_start().strip_prefix("behind").unwrap_or("");
+        let digits = || said.chars().filter(|letter| !letter.is_whitespace());
+        // They are counted before they are put together: a line can be as long as a file.
+        if self.behind.len() + digits().count() / 2 > MOST_BEHIND {
+            return line.wrong("there are more than 1,048,576 bytes behind the header: leave some out");
+        }
+        let digits: String = digits().collect();
+        self.behind.extend(from_hex(digits.as_bytes(), &line.place())?);
+        Ok(())
     }
 
     fn end_block(&mut self, of: &str) -> Checked<()> {

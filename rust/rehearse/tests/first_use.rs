@@ -601,6 +601,9 @@ fn half_a_key_is_no_key() {
     assert_eq!(step("whole").status, 0);
     folder.write("marked", "\u{feff}30a1f2c4b5d697e8091a2b3c4d5e6f70\n");
     assert_eq!(step("marked").status, 0);
+    // Sixteen bytes with the mark of a text.
+    folder.write("short", "\u{feff}30a1f2c4b5d69");
+    assert!(step("short").err.contains("--key: short: write 32 hex digits, not 13"));
 }
 
 /// Names and texts of others are quoted in one line of a screen's length, and can't move the cursor.
@@ -647,11 +650,10 @@ fn long_texts_are_given_up_early() {
         "{}",
         ran.err
     );
-    let call = format!(
-        "ulimit -v 200000; yes x | head -c 2000000 >list; {PROGRAM} journey --batch list {READINGS} | tail -n 1"
-    );
+    let call =
+        format!("ulimit -v 200000; yes x | head -c 2000000 >list; \"$0\" journey --batch list {READINGS} | tail -n 1");
     let ran = Command::new("sh")
-        .args(["-c", &call])
+        .args(["-c", &call, PROGRAM])
         .current_dir(&folder.0)
         .output()
         .unwrap();

@@ -14,6 +14,9 @@ use std::collections::BTreeMap;
 use std::ffi::OsStr;
 use std::path::Path;
 
+/// The most bytes of a line with two names. A list can be one line of many MiB.
+const LONGEST: usize = 65_536;
+
 /// A line of the list.
 struct Entry<'a> {
     line: usize,
@@ -82,6 +85,9 @@ impl<'a> Entry<'a> {
         let is_control = |letter: char| letter.is_control() && letter != '\t';
         match self.said {
             None => mistake("there is a byte in this line that is no text: write the names in UTF-8"),
+            Some(said) if said.len() > LONGEST => {
+                mistake("this line is longer than two names can be: write a path and a plan")
+            }
             Some(said) if said.contains(is_control) => {
                 mistake("there is a control character in this line: write a path and a plan")
             }

@@ -2,7 +2,7 @@
 
 use super::plan::turned_down;
 use crate::arguments::Arguments;
-use crate::files::{is_plain, shown, without_mark, Files, Spelling};
+use crate::files::{plain_text, shown, without_mark, Files, Spelling};
 use crate::hex;
 use crate::interfaces;
 use crate::itinerary;
@@ -87,12 +87,9 @@ fn key_of_file(files: &Files, name: &OsStr) -> Checked<ForwardingKey> {
     let bytes = files.read(name);
     let bytes = bytes.or_else(|why| mistake(format!("--key: {}; a key itself is written without the @", why.0)))?;
     let of = format!("--key: {}", shown(name));
-    let text = std::str::from_utf8(without_mark(&bytes))
-        .ok()
-        .filter(|text| is_plain(text));
-    match (ForwardingKey::try_from(&bytes[..]), text) {
+    match (ForwardingKey::try_from(&bytes[..]), plain_text(&bytes)) {
         // Sixteen bytes that are hex digits all of them are half a key.
-        (Ok(key), _) if !hex::is_hex(&bytes) => Ok(key),
+        (Ok(key), _) if !hex::is_hex(without_mark(&bytes)) => Ok(key),
         (_, Some(text)) => {
             let wrong = |why| mistake(format!("{of}: write 32 hex digits{why}; 16 bytes do as well"));
             hex::exactly(text).or_else(wrong)
