@@ -224,9 +224,11 @@ fn a_plan_of_bytes_with_slips_is_not_told() {
 
 // ---- calls
 
-const CALLS: [&str; 4] = [
+const CALLS: [&str; 6] = [
     "step good.path --table 1:parent:up --key KEY --interface 0 --now 2026-11-16T06:05:00Z",
-    "egress good.path --key=KEY --table 1:parent:up --interface 1 --now 2026-11-16 --json",
+    "egress good.path --key=KEY --table 1:parent:up --interface 1 --now 2026-11-16",
+    "ingress good.path --table KEY --key @m --interface 0 --now KEY",
+    "show KEY",
     "journey good.path site.plan --earliest 2026-11-16 --latest 2026-11-17 KEY",
     "sign good.txt --plan KEY -o out",
 ];
@@ -250,6 +252,8 @@ fn a_call_with_slips_is_not_told() {
         let call = random.of(&CALLS).replace("KEY", &key);
         let call = slip(&mut random, &call);
         let call: Vec<OsString> = call.split([' ', '\n']).map(OsString::from).collect();
-        assert_silent(&parts(&key), &call, &run(&call, &files), &key);
+        for call in [call.clone(), [call, words("--json")].concat()] {
+            assert_silent(&parts(&key), &call, &run(&call, &files), &key);
+        }
     }
 }
