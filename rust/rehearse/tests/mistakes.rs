@@ -350,7 +350,6 @@ fn a_file_of_one_line_takes_little_memory() {
     for (call, says) in [
         ("show letters".into(), "letters is text and no path header"),
         ("show - <letters".into(), "standard input is text and no path header"),
-        ("reverse words".into(), "words is text and no path header"),
         ("sign --show words".into(), "words is text and no path header"),
         ("sign letters -o x".into(), "letters, line 1: write `path` or `segment`"),
         ("sign groups -o x".into(), "groups, line 1: write `path` or `segment`"),
@@ -365,20 +364,12 @@ fn a_file_of_one_line_takes_little_memory() {
             "words, line 1: a plan starts with the word `station`",
         ),
         (
-            "plan digits -o x".into(),
-            "digits, line 1: a plan starts with the word `station`",
-        ),
-        (
             "plan key -o x".into(),
             "key, line 2: write 32 hex digits behind `key`, not 16777204",
         ),
         (
             format!("journey good.path words {journey}"),
             "words, line 1: a plan starts",
-        ),
-        (
-            format!("journey --batch letters {journey}"),
-            "line 1: this line is longer than two names",
         ),
         (
             format!("journey --batch words {journey}"),
