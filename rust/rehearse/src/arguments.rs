@@ -2,6 +2,7 @@
 
 use crate::mistake::{mistake, Checked};
 use crate::nearest::nearest;
+use crate::quoting::quoted;
 use std::ffi::{OsStr, OsString};
 
 /// What a command takes.
@@ -41,8 +42,8 @@ impl Arguments {
                 }
                 None if !options_end && word.to_string_lossy().starts_with('-') => {
                     return read.wrong(format!(
-                        "`{}` is no UTF-8: write a value behind its option, with a space between",
-                        word.to_string_lossy()
+                        "{} is no UTF-8: write a value behind its option, with a space between",
+                        quoted(&word.to_string_lossy())
                     ));
                 }
                 _ => read.places.push(word.clone()),
@@ -59,8 +60,8 @@ impl Arguments {
         match read.places.get(form.places.len()) {
             None => Ok(read),
             Some(word) => read.wrong(format!(
-                "`{}` is one word too many; a file name or a date with a space goes between quotes",
-                word.to_string_lossy()
+                "{} is one word too many; a file name or a date with a space goes between quotes",
+                quoted(&word.to_string_lossy())
             )),
         }
     }
@@ -78,7 +79,8 @@ impl Arguments {
             return Ok(());
         }
         let Some(&(name, what)) = self.form.values.iter().find(|&&(value, _)| value == name) else {
-            return self.wrong(format!("{name} is not an option of this command{}", self.meant(name)));
+            let (name, meant) = (quoted(name), self.meant(name));
+            return self.wrong(format!("{name} is not an option of this command{meant}"));
         };
         let behind = || words.next().filter(|word| !self.is_option(word)).cloned();
         let Some(value) = given.or_else(behind) else {
@@ -101,7 +103,7 @@ impl Arguments {
         match meant {
             Some(option) => format!(", but {option} is"),
             None if name.starts_with("--") || name.len() < 3 => String::new(),
-            None => format!("; a file of that name is written ./{name}"),
+            None => "; a file of that name is written with ./ before it".into(),
         }
     }
 
@@ -143,7 +145,10 @@ impl Arguments {
     pub fn needed(&self, name: &str) -> Checked<&str> {
         let value = self.given(name)?;
         value.to_str().map_or_else(
-            || mistake(format!("{name}: `{}` is no UTF-8: rename it", value.to_string_lossy())),
+            || {
+                let value = quoted(&value.to_string_lossy());
+                mistake(format!("{name}: {value} is no UTF-8: rename it"))
+            },
             Ok,
         )
     }
@@ -169,7 +174,8 @@ impl Arguments {
         match text.parse().ok().filter(|_| !text.starts_with('+')) {
             Some(number) => Ok(number),
             None => mistake(format!(
-                "{name}: `{text}` is no {what}: write a whole number from 0 to 65535"
+                "{name}: {} is no {what}: write a whole number from 0 to 65535",
+                quoted(text)
             )),
         }
     }

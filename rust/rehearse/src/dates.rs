@@ -1,6 +1,7 @@
 //! Times as seconds since 1970 and as dates, all in UTC.
 
 use crate::mistake::{mistake, Checked};
+use crate::quoting::quoted_time;
 
 const DAY: u64 = 86_400;
 
@@ -50,7 +51,8 @@ pub fn time(text: &str, of: &str) -> Checked<u32> {
     if !text.is_empty() && text.bytes().all(|byte| byte.is_ascii_digit()) {
         return text.parse().or_else(|_| {
             mistake(format!(
-                "{of}: {text} seconds are more than 4294967295, the last second that a header can hold"
+                "{of}: {} is more than 4294967295, the last second that a header can hold",
+                quoted_time(text)
             ))
         });
     }
@@ -58,14 +60,16 @@ pub fn time(text: &str, of: &str) -> Checked<u32> {
         Ok(seconds) => seconds,
         Err(why) => {
             return mistake(format!(
-                "{of}: `{text}` is no time{why}: write seconds since 1970, or a date in UTC as 2026-11-15T06:00:00Z, \
-                 2026-11-15 06:00:00 or 2026-11-15"
+                "{of}: {} is no time{why}: write seconds since 1970, or a date in UTC as 2026-11-15T06:00:00Z, \
+                 2026-11-15 06:00:00 or 2026-11-15",
+                quoted_time(text)
             ))
         }
     };
     u32::try_from(seconds).or_else(|_| {
         mistake(format!(
-            "{of}: `{text}` is later than 2106-02-07T06:28:15Z, the last second that a header can hold"
+            "{of}: {} is later than 2106-02-07T06:28:15Z, the last second that a header can hold",
+            quoted_time(text)
         ))
     })
 }

@@ -3,6 +3,8 @@
 use crate::hex;
 use crate::kinds::{self, Kind};
 use crate::mistake::{mistake, Checked};
+use crate::output::shortened;
+use crate::quoting::{left_out, may_hold_key};
 use crate::write::{self, Holds};
 use std::cell::{Cell, RefCell};
 use std::collections::{BTreeMap, BTreeSet};
@@ -30,6 +32,12 @@ pub struct Made<'a> {
     /// The same as hex text.
     pub hex: &'a str,
     pub holds: Holds,
+}
+
+/// What is read where bytes are asked for: the bytes, or a text that does not stand for any.
+pub enum Held {
+    Bytes(Vec<u8>),
+    Text(String),
 }
 
 /// How a file of bytes is to be read.
@@ -73,7 +81,7 @@ impl Files {
                 let place = fs::canonicalize(place).ok().filter(|place| place.is_file());
                 read.borrow_mut().extend(place);
                 match is_input {
-                    true => read_within(io::stdin().lock(), name),
+                    true => read_within(io::stdin().lock(), 0, name),
                     false => read_file(name),
                 }
             }
@@ -82,10 +90,9 @@ impl Files {
 
     /// A file of text in UTF-8.
     pub fn read_text(&self, name: &OsStr) -> Checked<String> {
-        let bytes = self.read(name)?;
-        match plain_text(&bytes) {
-            Some(text) => Ok(text),
-            None => mistake(match other_letters(&bytes) {
+        match into_text(self.read(name)?) {
+            Ok(text) => Ok(text),
+            Err(bytes) => mistake(match other_letters(&bytes) {
                 Some(why) => format!("{} {why}", shown(name)),
                 None => format!(
                     "{} is no text: give the text form that the command's --help describes; `rehearse plan --show` and \
@@ -96,15 +103,33 @@ impl Files {
         }
     }
 
-    /// A path header, raw or as hex text.
-    pub fn read_path(&self, name: &OsStr, spelling: Spelling) -> Checked<Vec<u8>> {
+    /// A file of bytes, raw or as hex text.
+    pub fn read_bytes(&self, name: &OsStr, spelling: Spelling) -> Checked<Held> {
         let bytes = self.read(name)?;
-        if let Some(read) = spelled(&bytes, spelling, name) {
-            return read;
+        let from_hex = || hex::from_hex(without_mark(&bytes), &shown(name));
+        match spelling {
+            Spelling::Raw => Ok(Held::Bytes(bytes)),
+            Spelling::Hex => from_hex().map(Held::Bytes),
+            Spelling::ByContent if hex::is_hex(without_mark(&bytes)) => from_hex()
+                .map(Held::Bytes)
+                .or_else(|why| mistake(format!("{} (--raw takes the file as it is)", why.0))),
+            Spelling::ByContent => match into_text(bytes) {
+                Ok(text) => Ok(Held::Text(text)),
+                Err(bytes) => as_bytes(bytes, name).map(Held::Bytes),
+            },
         }
-        match plain_text(&bytes) {
-            Some(text) => mistake(no_header(&text, name)),
-            None => as_bytes(bytes, name),
+    }
+
+    /// A path header.
+    pub fn read_path(&self, name: &OsStr, spelling: Spelling) -> Checked<Vec<u8>> {
+        let bytes = match self.read_bytes(name, spelling)? {
+            Held::Bytes(bytes) => bytes,
+            Held::Text(text) => return mistake(no_header(&text, name)),
+        };
+        // A plan's text has keys in it. It is not shown as a path, whatever the call says of its bytes.
+        match plain_text(&bytes).filter(|text| matches!(kinds::of(text), Kind::Plan)) {
+            Some(text) => mistake(no_header(text, name)),
+            None => Ok(bytes),
         }
     }
 
@@ -152,22 +177,8 @@ pub fn almost_hex(of: &str, why: &str) -> String {
     format!("{of}: {why} (--raw takes the file as it is)")
 }
 
-/// The bytes as raw or hex, or nothing if they have to be looked at further.
-pub fn spelled(bytes: &[u8], spelling: Spelling, name: &OsStr) -> Option<Checked<Vec<u8>>> {
-    let text = without_mark(bytes);
-    match spelling {
-        Spelling::Raw => Some(Ok(bytes.to_vec())),
-        Spelling::Hex => Some(hex::from_hex(text, &shown(name))),
-        Spelling::ByContent if hex::is_hex(text) => Some(
-            hex::from_hex(text, &shown(name))
-                .or_else(|why| mistake(format!("{} (--raw takes the file as it is)", why.0))),
-        ),
-        Spelling::ByContent => None,
-    }
-}
-
 /// Whether this is text as people write it.
-pub fn is_plain(text: &str) -> bool {
+fn is_plain(text: &str) -> bool {
     text.chars()
         .all(|letter| !letter.is_control() || matches!(letter, '\t' | '\n' | '\r'))
 }
@@ -177,12 +188,20 @@ pub fn without_mark(bytes: &[u8]) -> &[u8] {
     bytes.strip_prefix("\u{feff}".as_bytes()).unwrap_or(bytes)
 }
 
-/// Text in UTF-8, a line ending in a line feed however it was written, or nothing if it is none.
-pub fn plain_text(bytes: &[u8]) -> Option<String> {
-    let text = std::str::from_utf8(without_mark(bytes))
+/// Text in UTF-8, without its mark, or nothing if it is none.
+pub fn plain_text(bytes: &[u8]) -> Option<&str> {
+    std::str::from_utf8(without_mark(bytes))
         .ok()
-        .filter(|text| is_plain(text))?;
-    Some(text.replace("\r\n", "\n").replace('\r', "\n"))
+        .filter(|text| is_plain(text))
+}
+
+/// The same as a text of its own, or the bytes back. Nothing is copied: files are long.
+fn into_text(mut bytes: Vec<u8>) -> Result<String, Vec<u8>> {
+    if plain_text(&bytes).is_none() {
+        return Err(bytes);
+    }
+    bytes.drain(..bytes.len() - without_mark(&bytes).len());
+    String::from_utf8(bytes).map_err(|error| error.into_bytes())
 }
 
 /// What to say of text that is not in UTF-8. Neither a sound plan nor a header with reserved bits of zero is taken for it:
@@ -206,19 +225,23 @@ fn other_letters(bytes: &[u8]) -> Option<String> {
 }
 
 /// Bytes that are no text are taken as they are, but for text in other letters.
-pub fn as_bytes(bytes: Vec<u8>, name: &OsStr) -> Checked<Vec<u8>> {
+fn as_bytes(bytes: Vec<u8>, name: &OsStr) -> Checked<Vec<u8>> {
     match other_letters(&bytes) {
         Some(why) => mistake(format!("{} {why}", shown(name))),
         None => Ok(bytes),
     }
 }
 
-/// A file's name as it is shown.
+/// A file's name as it is shown. One that may hold a key is shown only if there is such a file: it is no secret then.
 pub fn shown(name: &OsStr) -> String {
     if name == "-" {
         return "standard input".into();
     }
-    name.to_string_lossy().into_owned()
+    let text = name.to_string_lossy();
+    match may_hold_key(&text) && !Path::new(name).exists() {
+        true => left_out("name", &text),
+        false => shortened(&text),
+    }
 }
 
 fn read_file(name: &OsStr) -> Checked<Vec<u8>> {
@@ -233,13 +256,14 @@ fn read_file(name: &OsStr) -> Checked<Vec<u8>> {
         return too_long(name);
     }
     match fs::File::open(name) {
-        Ok(file) => read_within(file, name),
+        Ok(file) => read_within(file, about.len(), name),
         Err(error) => cannot_read(name, &error),
     }
 }
 
-fn read_within(from: impl Read, name: &OsStr) -> Checked<Vec<u8>> {
-    let mut bytes = Vec::new();
+/// Reads to the end, which is expected behind so many bytes.
+fn read_within(from: impl Read, expected: u64, name: &OsStr) -> Checked<Vec<u8>> {
+    let mut bytes = Vec::with_capacity(expected as usize);
     match from.take(LIMIT + 1).read_to_end(&mut bytes) {
         Err(error) => cannot_read(name, &error),
         Ok(_) if bytes.len() as u64 > LIMIT => too_long(name),

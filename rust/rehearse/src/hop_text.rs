@@ -2,6 +2,7 @@
 
 use crate::lines::{once, Line};
 use crate::mistake::Checked;
+use crate::quoting::quoted;
 
 pub struct HopText {
     /// The place of its line, for mistakes.
@@ -17,7 +18,7 @@ pub struct HopText {
 
 /// The six flag bits that have no name.
 pub fn reserved_flags(line: &Line<'_>, word: &str) -> Checked<u8> {
-    let [flags] = line.hex(word)?;
+    let [flags] = line.hex("reserved_flags", word)?;
     if flags & 3 != 0 {
         return line.wrong(format!(
             "`{word}` sets one of the two lowest bits, which have words of their own (cons_dir and peering; alert)"
@@ -35,7 +36,7 @@ pub fn hop(line: &Line<'_>) -> Checked<HopText> {
     let mut alerts = [None; 2];
     for pair in line.words[1..].chunks(2) {
         let &[name, word] = pair else {
-            return line.wrong(format!("`{}` has nothing behind it: {HOP}", pair[0]));
+            return line.wrong(format!("{} has nothing behind it: {HOP}", quoted(pair[0])));
         };
         match (name, word) {
             ("in", word) => once(&mut into, line.number_up_to(word, u16::MAX)?, line, "`in`")?,
@@ -50,9 +51,9 @@ pub fn hop(line: &Line<'_>) -> Checked<HopText> {
             ("alert", "ingress") => once(&mut alerts[0], true, line, "`alert ingress`")?,
             ("alert", "egress") => once(&mut alerts[1], true, line, "`alert egress`")?,
             ("reserved_flags", word) => once(&mut flags, reserved_flags(line, word)?, line, "`reserved_flags`")?,
-            ("mac", word) => once(&mut mac, line.hex(word)?, line, "`mac`")?,
-            ("alert", _) => return line.wrong(format!("`alert {word}` is not known here: {HOP}")),
-            _ => return line.wrong(format!("`{name}` is not known here: {HOP}")),
+            ("mac", word) => once(&mut mac, line.hex("mac", word)?, line, "`mac`")?,
+            ("alert", _) => return line.wrong(format!("{} is no alert: {HOP}", quoted(word))),
+            _ => return line.wrong(format!("{} is not known here: {HOP}", quoted(name))),
         }
     }
     let (Some(into), Some(out), Some(exp_time)) = (into, out, exp_time) else {
@@ -83,7 +84,8 @@ fn exp_time_of(line: &Line<'_>, word: &str) -> Checked<u8> {
     match seconds.map(|seconds| seconds.saturating_mul(2).div_ceil(675)) {
         Some(units @ 0..=256) => Ok(units.saturating_sub(1) as u8),
         _ => line.wrong(format!(
-            "`{word}` is no time that a hop can last: write a number and s, m or h, up to 24h, as `lasts 6h`"
+            "{} is no time that a hop can last: write a number and s, m or h, up to 24h, as `lasts 6h`",
+            quoted(word)
         )),
     }
 }
@@ -97,6 +99,7 @@ mod tests {
         let line = Line {
             of: "t",
             number: 1,
+            said: "",
             words: vec![],
         };
         for (word, exp_time) in [

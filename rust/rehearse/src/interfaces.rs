@@ -3,6 +3,7 @@
 use crate::files::Files;
 use crate::lines::{lines, Line};
 use crate::mistake::{mistake, Checked};
+use crate::quoting::quoted;
 use std::ffi::OsStr;
 
 /// An interface: its number and its state byte.
@@ -26,9 +27,10 @@ pub fn from_words(line: &Line<'_>, words: &[&str]) -> Checked<Interface> {
     match (place, state) {
         (Some(kind), "up") => Ok((number, kind as u8 + 4)),
         (Some(kind), "down") => Ok((number, kind as u8)),
-        (Some(_), _) => line.wrong(format!("`{state}` is no state of a link: write up or down")),
+        (Some(_), _) => line.wrong(format!("{} is no state of a link: write up or down", quoted(state))),
         (None, _) => line.wrong(format!(
-            "`{kind}` is no kind of link: write core, parent, child or peer"
+            "{} is no kind of link: write core, parent, child or peer",
+            quoted(kind)
         )),
     }
 }
@@ -70,12 +72,14 @@ fn from_inline(entry: &str) -> Checked<Interface> {
     let line = Line {
         of: "--table",
         number: 1,
+        said: "",
         words: Vec::new(),
     };
     from_words(&line, &words).or_else(|_| {
         mistake(format!(
-            "--table: `{entry}` is no interface: write 1:child:up, with commas between interfaces, or name a file with \
-             lines as `interface 1 child up`, with @ before its name if that has a colon"
+            "--table: {} is no interface: write 1:child:up, with commas between interfaces, or name a file with lines as \
+             `interface 1 child up`, with @ before its name if that has a colon",
+            quoted(entry)
         ))
     })
 }

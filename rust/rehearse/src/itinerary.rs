@@ -7,7 +7,7 @@ use crate::report::sentences;
 use standard_path::{check_journey, JourneyError, ScionNetworkTime};
 use std::collections::HashSet;
 
-const RECORD: usize = 32;
+pub const RECORD: usize = 32;
 pub const MOST_RECORDS: usize = 2_048;
 
 pub const TOO_MANY: &str =

@@ -1,5 +1,6 @@
 //! JSON, written by hand.
 
+use crate::output::is_written_out;
 use std::fmt;
 
 #[derive(Debug, Clone, PartialEq, Eq)]
@@ -60,11 +61,19 @@ fn quoted(f: &mut fmt::Formatter<'_>, text: &str) -> fmt::Result {
             '\n' => f.write_str("\\n")?,
             '\r' => f.write_str("\\r")?,
             '\t' => f.write_str("\\t")?,
-            letter if u32::from(letter) < 0x20 || letter == '\u{7f}' => write!(f, "\\u{:04x}", u32::from(letter))?,
+            letter if is_written_out(letter) => escaped(f, letter)?,
             letter => write!(f, "{letter}")?,
         }
     }
     f.write_str("\"")
+}
+
+/// A letter by its number: two numbers where it is above U+FFFF.
+fn escaped(f: &mut fmt::Formatter<'_>, letter: char) -> fmt::Result {
+    letter
+        .encode_utf16(&mut [0; 2])
+        .iter()
+        .try_for_each(|unit| write!(f, "\\u{unit:04x}"))
 }
 
 #[cfg(test)]
@@ -91,6 +100,10 @@ mod tests {
         assert_eq!(
             Json::text("\"\\\n\r\t\u{1}\u{7f}é").to_string(),
             "\"\\\"\\\\\\n\\r\\t\\u0001\\u007fé\""
+        );
+        assert_eq!(
+            Json::text("\u{85}\u{202e}\u{2028}\u{e0041}🚚").to_string(),
+            r#""\u0085\u202e\u2028\udb40\udc41🚚""#
         );
     }
 }

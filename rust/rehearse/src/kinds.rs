@@ -14,11 +14,12 @@ pub enum Kind {
 }
 
 pub fn of(text: &str) -> Kind {
-    let first = lines(text, "").next().map(|line| line.words[0].to_ascii_lowercase());
-    match (first.as_deref(), hex::first_wrong(text.as_bytes())) {
-        (Some("station"), _) => Kind::Plan,
-        (Some("path" | "segment" | "behind"), _) => Kind::Path,
-        (_, Some(why)) if is_mostly_hex(text) => Kind::AlmostHex(why),
+    let first = lines(text, "").next().map_or("", |line| line.words[0]);
+    let is_first = |words: &[&str]| words.iter().any(|word| first.eq_ignore_ascii_case(word));
+    match hex::first_wrong(text.as_bytes()) {
+        _ if is_first(&["station"]) => Kind::Plan,
+        _ if is_first(&["path", "segment", "behind"]) => Kind::Path,
+        Some(why) if is_mostly_hex(text) => Kind::AlmostHex(why),
         _ => Kind::Other,
     }
 }
@@ -26,8 +27,8 @@ pub fn of(text: &str) -> Kind {
 /// Whether half of the letters are hex digits, comments left out. Of a text in words about a third are.
 fn is_mostly_hex(text: &str) -> bool {
     let (mut digits, mut letters) = (0, 0);
-    for letter in lines(text, "").flat_map(|line| line.words).flat_map(str::chars) {
-        letters += 1;
+    for letter in lines(text, "").flat_map(|line| line.said.chars()) {
+        letters += usize::from(!letter.is_whitespace());
         digits += usize::from(letter.is_ascii_hexdigit());
     }
     digits > 0 && 2 * digits >= letters

@@ -27,6 +27,7 @@ mod part;
 mod path_text;
 mod path_words;
 mod plan;
+mod quoting;
 mod report;
 mod rights;
 mod seen;

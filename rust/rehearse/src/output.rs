@@ -21,18 +21,60 @@ pub fn complain(text: &str) {
     let _ = io::stderr().lock().write_all(text.as_bytes());
 }
 
-/// A text in one line, with what would move the cursor or colour the screen written out: names and texts are others'.
+/// Letters that nobody sees or that move the others: Unicode's format characters, its separators of lines and paragraphs,
+/// and those that a font may leave out.
+const UNSEEN: [(char, char); 25] = [
+    ('\u{ad}', '\u{ad}'),
+    ('\u{34f}', '\u{34f}'),
+    ('\u{600}', '\u{605}'),
+    ('\u{61c}', '\u{61c}'),
+    ('\u{6dd}', '\u{6dd}'),
+    ('\u{70f}', '\u{70f}'),
+    ('\u{890}', '\u{891}'),
+    ('\u{8e2}', '\u{8e2}'),
+    ('\u{115f}', '\u{1160}'),
+    ('\u{17b4}', '\u{17b5}'),
+    ('\u{180b}', '\u{180f}'),
+    ('\u{200b}', '\u{200f}'),
+    ('\u{2028}', '\u{202e}'),
+    ('\u{2060}', '\u{206f}'),
+    ('\u{3164}', '\u{3164}'),
+    ('\u{fe00}', '\u{fe0f}'),
+    ('\u{feff}', '\u{feff}'),
+    ('\u{ffa0}', '\u{ffa0}'),
+    ('\u{fff0}', '\u{fffb}'),
+    ('\u{110bd}', '\u{110bd}'),
+    ('\u{110cd}', '\u{110cd}'),
+    ('\u{13430}', '\u{1343f}'),
+    ('\u{1bca0}', '\u{1bca3}'),
+    ('\u{1d173}', '\u{1d17a}'),
+    ('\u{e0000}', '\u{e0fff}'),
+];
+
+/// Whether a letter is written out, on the screen as in JSON: a text of others could hide behind it.
+pub fn is_written_out(letter: char) -> bool {
+    let is_unseen = |&(first, last): &(char, char)| (first..=last).contains(&letter);
+    letter.is_control() || !letter.is_ascii() && UNSEEN.iter().any(is_unseen)
+}
+
+/// A text in one line, with what would move the cursor or is not seen written out: names and texts are others'.
 pub fn printable(text: &str) -> String {
     let mut line = String::new();
     for letter in text.chars() {
-        // Marks that turn the direction of writing are no control characters by their class.
-        let turns = matches!(letter, '\u{200e}' | '\u{200f}' | '\u{202a}'..='\u{202e}' | '\u{2066}'..='\u{2069}');
-        match letter.is_control() || turns {
+        match is_written_out(letter) {
             true => line.extend(letter.escape_default()),
             false => line.push(letter),
         }
     }
     line
+}
+
+/// A letter in a sentence: as it is, or by its number where it would not be seen.
+pub fn letter(letter: char) -> String {
+    match is_written_out(letter) || letter.is_whitespace() {
+        true => format!("U+{:04X}", u32::from(letter)),
+        false => format!("`{letter}`"),
+    }
 }
 
 /// A text with its middle left out where it is too long to be read.
@@ -120,8 +162,46 @@ mod tests {
     use super::*;
 
     #[test]
+    fn letters_that_nobody_sees_are_written_out() {
+        for (first, last) in [
+            (0x00, 0x1f),
+            (0x7f, 0x9f),
+            (0x200b, 0x200f),
+            (0x2028, 0x202e),
+            (0x2060, 0x206f),
+        ] {
+            for number in first..=last {
+                assert!(is_written_out(char::from_u32(number).unwrap()), "{number:x}");
+            }
+        }
+        for number in [
+            0xad, 0x61c, 0x180e, 0xfe0f, 0xfeff, 0xfff9, 0xfffb, 0xe0001, 0xe0020, 0xe007f, 0xe01ef,
+        ] {
+            assert!(is_written_out(char::from_u32(number).unwrap()), "{number:x}");
+        }
+        for seen in " ~\u{a0}äßéжשع中あ한ไद́\u{2010}\u{2027}\u{fffd}🚚".chars() {
+            assert!(!is_written_out(seen), "{seen:?}");
+        }
+        assert!(UNSEEN.windows(2).all(|pair| pair[0].1 < pair[1].0));
+    }
+
+    #[test]
+    fn a_letter_is_named() {
+        for (given, named) in [
+            ('g', "`g`"),
+            ('é', "`é`"),
+            ('\u{a0}', "U+00A0"),
+            ('\u{202e}', "U+202E"),
+            ('\n', "U+000A"),
+        ] {
+            assert_eq!(letter(given), named);
+        }
+    }
+
+    #[test]
     fn a_text_of_others_stays_in_its_line() {
         assert_eq!(printable("\u{202e}x"), "\\u{202e}x");
+        assert_eq!(printable("a\u{200b}\u{e0041}"), "a\\u{200b}\\u{e0041}");
         assert_eq!(printable("a\rb\n\u{1b}[2Kc\td é"), "a\\rb\\n\\u{1b}[2Kc\\td é");
         assert_eq!(shortened(&"é".repeat(1_000)), "é".repeat(1_000));
         let long = shortened(&format!("{}{}", "a".repeat(9_000), "z".repeat(300)));

@@ -5,6 +5,7 @@ use crate::hex::from_hex;
 use crate::hop_text::{hop, reserved_flags, HopText};
 use crate::lines::{lines, once, Line};
 use crate::mistake::{mistake, Checked};
+use crate::quoting::quoted;
 
 /// The most bytes behind a header that the text form takes, both ways.
 pub const MOST_BEHIND: usize = 1_048_576;
@@ -63,8 +64,9 @@ impl PathDraft {
             "reserved" => (&mut self.reserved, 63),
             _ => {
                 return line.wrong(format!(
-                "`{word}` is not known here: below `path` stand curr_inf, curr_hf and reserved, and a segment starts \
-                     with the word `segment`"
+                "{} is not known here: below `path` stand curr_inf, curr_hf and reserved, and a segment starts with \
+                     the word `segment`",
+                quoted(word)
             ))
             }
         };
@@ -92,7 +94,7 @@ impl SegmentDraft {
             "cons_dir" => once(&mut self.cons_dir, yes_or_no(line)?, line, "`cons_dir`"),
             "peering" => once(&mut self.peering, yes_or_no(line)?, line, "`peering`"),
             "reserved" => {
-                let [byte] = line.hex(line.only("reserved 00")?)?;
+                let [byte] = line.hex("reserved", line.only("reserved 00")?)?;
                 once(&mut self.reserved, byte, line, "`reserved`")
             }
             "reserved_flags" => {
@@ -110,8 +112,9 @@ impl SegmentDraft {
                 Ok(())
             }
             word => line.wrong(format!(
-                "`{word}` is not known here: below `segment` stand cons_dir, peering, seg_id or beta, timestamp, \
-                 reserved_flags, reserved and hop"
+                "{} is not known here: below `segment` stand cons_dir, peering, seg_id or beta, timestamp, \
+                 reserved_flags, reserved and hop",
+                quoted(word)
             )),
         }
     }
@@ -207,22 +210,28 @@ impl Reader {
                 Ok(())
             }
             [word @ ("path" | "segment"), ..] => line.wrong(format!("write `{word}` alone; a name goes behind a #")),
-            ["behind", ref words @ ..] => {
-                self.behind.extend(from_hex(words.concat().as_bytes(), &line.place())?);
-                match self.behind.len() > MOST_BEHIND {
-                    true => line.wrong("there are more than 1,048,576 bytes behind the header: leave some out"),
-                    false => Ok(()),
-                }
-            }
+            ["behind", ..] => self.read_behind(line),
             _ => match &mut self.block {
                 Some(Block::Path(path)) => path.read(line),
                 Some(Block::Segment(segment)) => segment.read(line),
                 None => line.wrong(format!(
-                    "write `path` or `segment` on a line of its own before `{}`",
-                    line.words[0]
+                    "write `path` or `segment` on a line of its own before {}",
+                    quoted(line.words[0])
                 )),
             },
         }
+    }
+
+    fn read_behind(&mut self, line: &Line<'_>) -> Checked<()> {
+        let said = line.said.trim_start().strip_prefix("behind").unwrap_or("");
+        let digits = || said.chars().filter(|letter| !letter.is_whitespace());
+        // They are counted before they are put together: a line can be as long as a file.
+        if self.behind.len() + digits().count() / 2 > MOST_BEHIND {
+            return line.wrong("there are more than 1,048,576 bytes behind the header: leave some out");
+        }
+        let digits: String = digits().collect();
+        self.behind.extend(from_hex(digits.as_bytes(), &line.place())?);
+        Ok(())
     }
 
     fn end_block(&mut self, of: &str) -> Checked<()> {
@@ -248,5 +257,5 @@ fn yes_or_no(line: &Line<'_>) -> Checked<bool> {
 /// A number of four hex digits.
 fn two_bytes(line: &Line<'_>) -> Checked<u16> {
     let word = line.only(&format!("{} 1234", line.words[0]))?;
-    Ok(u16::from_be_bytes(line.hex(word)?))
+    Ok(u16::from_be_bytes(line.hex(line.words[0], word)?))
 }

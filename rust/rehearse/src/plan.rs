@@ -1,12 +1,13 @@
 //! A site plan: its stations, and the text form in which people write them.
 
-use crate::files::{almost_hex, as_bytes, plain_text, shown, spelled, Files, Spelling};
+use crate::files::{almost_hex, shown, Files, Held, Spelling};
 use crate::hex::to_hex;
 use crate::interfaces::{self, Interface};
 use crate::itinerary::{self, MOST_RECORDS, TOO_MANY};
 use crate::kinds::{self, Kind};
 use crate::lines::{lines, once, Line};
 use crate::mistake::{mistake, Checked};
+use crate::quoting::quoted;
 use std::ffi::OsStr;
 
 #[derive(Debug, Clone, PartialEq, Eq)]
@@ -33,14 +34,15 @@ impl Draft {
             }
             "key" => {
                 let word = line.only("key 000102030405060708090a0b0c0d0e0f")?;
-                once(&mut self.key, line.hex(word)?, line, "`key`")
+                once(&mut self.key, line.hex("key", word)?, line, "`key`")
             }
             "interface" => {
                 self.interfaces.push(interfaces::from_words(line, &line.words[1..])?);
                 Ok(())
             }
             word => line.wrong(format!(
-                "`{word}` is not known here: a plan has the words station, arrival, key and interface"
+                "{} is not known here: a plan has the words station, arrival, key and interface",
+                quoted(word)
             )),
         }
     }
@@ -108,15 +110,12 @@ pub fn to_text(stations: &[Station]) -> String {
 ///
 /// A sound plan's first byte is below 8, since the first station's index is below 2,048, so that no sound plan is text.
 pub fn read(files: &Files, name: &OsStr, spelling: Spelling) -> Checked<Vec<u8>> {
-    let bytes = files.read(name)?;
-    if let Some(read) = spelled(&bytes, spelling, name) {
-        return read;
-    }
-    match plain_text(&bytes) {
-        Some(text) => match kinds::of(&text) {
-            Kind::AlmostHex(why) => mistake(almost_hex(&shown(name), &why)),
-            _ => itinerary::to_bytes(&from_text(&text, &shown(name))?),
-        },
-        None => as_bytes(bytes, name),
+    let text = match files.read_bytes(name, spelling)? {
+        Held::Bytes(bytes) => return Ok(bytes),
+        Held::Text(text) => text,
+    };
+    match kinds::of(&text) {
+        Kind::AlmostHex(why) => mistake(almost_hex(&shown(name), &why)),
+        _ => itinerary::to_bytes(&from_text(&text, &shown(name))?),
     }
 }

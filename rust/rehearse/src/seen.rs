@@ -1,15 +1,22 @@
 //! What is seen in a path and a plan, to look at beside a refusal of the library. Nothing here is asked for a verdict.
 
 use crate::header::Header;
-use crate::itinerary::{self, Read};
+use crate::itinerary::{Read, RECORD};
 use crate::plan::Station;
 use crate::report::{counted, cut, sentences};
 use standard_path::{expiration, JourneyError};
 
-/// A path that would do as a plan: the wrong file was named.
+/// A path that begins as a plan does, sound or not: the wrong file was named. The first record of a plan has the index of a
+/// station and zeros, but for slips, where a path has timestamps and MACs.
 pub fn plan_as_path(path: &[u8]) -> bool {
-    let stations = itinerary::read(path).stations.len();
-    itinerary::fits_some_path(path, stations)
+    let Some(([high, low, zeros @ ..], records)) = path.split_first_chunk::<RECORD>() else {
+        return false;
+    };
+    let (station, count) = (u16::from_be_bytes([*high, *low]), path.len().div_ceil(RECORD));
+    let is_odd = |byte: &&u8| **byte != 0;
+    (1..count).contains(&station.into())
+        && zeros.iter().filter(is_odd).count() <= 2
+        && records.iter().any(|byte| *byte != 0)
 }
 
 /// A plan that would do as a path: a header from its first byte to its last.

@@ -83,17 +83,20 @@ fn text_in_other_letters_is_named() {
 #[test]
 fn a_plan_in_the_place_of_a_path_is_named() {
     let folder = Folder::with_site();
-    let note = "rehearse: site.plan is a plan by its bytes: `rehearse plan --show` shows it\n";
+    let note =
+        "rehearse: site.plan is a plan by its bytes: `rehearse plan --show` shows it (--raw and --hex take it as a \
+                path all the same)\n";
     for call in [
         "show site.plan",
         "expiration site.plan",
         "reverse site.plan",
         "sign --show site.plan",
     ] {
-        assert!(folder.run(call).err.starts_with(note), "{call}");
+        let ran = folder.run(call);
+        assert_eq!((ran.status, &ran.out[..], &ran.err[..]), (2, "", note), "{call}");
     }
     let ran = folder.run(&format!("step site.plan {HALL_A} --interface 0 {AT}"));
-    assert!(ran.err.starts_with(note), "{ran:?}");
+    assert_eq!((ran.status, &ran.out[..], &ran.err[..]), (2, "", note));
     let ran = folder.run(&format!("journey site.plan good.path {READINGS}"));
     assert!(
         ran.out.contains("    seen         the path is a plan by its bytes"),
@@ -367,23 +370,23 @@ fn words_that_are_almost_right_are_named() {
         ("help sing", "`sing` is not a command of rehearse, but sign is: see"),
         (
             "journey a b --earlyest 1",
-            "--earlyest is not an option of this command, but --earliest is: see",
+            "`--earlyest` is not an option of this command, but --earliest is: see",
         ),
         (
             "reverse good.path -o x",
-            "-o is not an option of this command, but --write is: see",
+            "`-o` is not an option of this command, but --write is: see",
         ),
         (
             "plan plan.txt --write x",
-            "--write is not an option of this command, but -o is: see",
+            "`--write` is not an option of this command, but -o is: see",
         ),
         (
             "sign good.txt --output x",
-            "--output is not an option of this command, but -o is: see",
+            "`--output` is not an option of this command, but -o is: see",
         ),
         (
             "show -x.path",
-            "-x.path is not an option of this command; a file of that name is written ./-x.path: see",
+            "`-x.path` is not an option of this command; a file of that name is written with ./ before it: see",
         ),
         ("expire", "`expire` is not a command of rehearse: see"),
         (
@@ -493,10 +496,18 @@ fn words_that_are_almost_right_are_named() {
         (
             "plan",
             "station\nkey 0x30\n",
-            "`0x30` is not 32 hex digits: leave out the `0x`",
+            "line 2: write 32 hex digits behind `key`: character 2 of 4 is `x` (leave out the `0x`)",
         ),
-        ("plan", "station\nkey 3g\n", "`3g` is not 32 hex digits: `g` is none"),
-        ("plan", "station\nkey 30\n", "`30` is not 32 hex digits: there are 2"),
+        (
+            "plan",
+            "station\nkey 3g\n",
+            "line 2: write 32 hex digits behind `key`: character 2 of 2 is `g`",
+        ),
+        (
+            "plan",
+            "station\nkey 30\n",
+            "line 2: write 32 hex digits behind `key`, not 2",
+        ),
     ] {
         folder.write("text", text);
         let ran = folder.run(&format!("{command} text -o x"));
@@ -583,18 +594,25 @@ fn half_a_key_is_no_key() {
             "step good.path --table 1:parent:up --key @{key} --interface 0 {AT}"
         ))
     };
-    assert!(step("half").err.contains("half holds 8 bytes and no key"));
-    assert!(step("odd").err.contains("odd number"));
+    assert!(step("half")
+        .err
+        .contains("--key: half: write 32 hex digits, not 16; 16 bytes do as well"));
+    assert!(step("odd")
+        .err
+        .contains("--key: odd: write 32 hex digits, not 17; 16 bytes do as well"));
     assert_eq!(step("whole").status, 0);
     folder.write("marked", "\u{feff}30a1f2c4b5d697e8091a2b3c4d5e6f70\n");
     assert_eq!(step("marked").status, 0);
+    // Sixteen bytes with the mark of a text.
+    folder.write("short", "\u{feff}30a1f2c4b5d69");
+    assert!(step("short").err.contains("--key: short: write 32 hex digits, not 13"));
 }
 
 /// Names and texts of others are quoted in one line of a screen's length, and can't move the cursor.
 #[test]
 fn what_is_quoted_is_short_and_plain() {
     let folder = Folder::with_site();
-    folder.write("long", "a".repeat(2_000_000));
+    folder.write("long", "n".repeat(2_000_000));
     let ran = folder.run("sign long -o x");
     assert!(ran.status == 2 && ran.err.len() < 1_200, "{}", ran.err.len());
     assert!(ran.err.contains("letters left out"));
@@ -634,11 +652,10 @@ fn long_texts_are_given_up_early() {
         "{}",
         ran.err
     );
-    let call = format!(
-        "ulimit -v 200000; yes x | head -c 2000000 >list; {PROGRAM} journey --batch list {READINGS} | tail -n 1"
-    );
+    let call =
+        format!("ulimit -v 200000; yes x | head -c 2000000 >list; \"$0\" journey --batch list {READINGS} | tail -n 1");
     let ran = Command::new("sh")
-        .args(["-c", &call])
+        .args(["-c", &call, PROGRAM])
         .current_dir(&folder.0)
         .output()
         .unwrap();

@@ -18,9 +18,9 @@ fn a_list_without_a_reader_is_checked_to_its_end() {
     ] {
         folder.write("list", format!("{good}{last}\n"));
         for reader in ["true", "head -1"] {
-            let call = format!("{{ {PROGRAM} journey --batch list {READINGS}; echo $? >status; }} | {reader}");
+            let call = format!("{{ \"$0\" journey --batch list {READINGS}; echo $? >status; }} | {reader}");
             let output = Command::new("sh")
-                .args(["-c", &call])
+                .args(["-c", &call, PROGRAM])
                 .current_dir(&folder.0)
                 .output()
                 .unwrap();
@@ -65,7 +65,7 @@ fn each_bad_line_is_named_and_the_others_are_checked() {
 /// What stands on a terminal that a call writes to. `script` lends one; where it is not there, nothing is tried.
 fn screen(folder: &Folder, call: &str) -> Option<String> {
     let script = Command::new("script")
-        .args(["-qec", &format!("{PROGRAM} {call}"), "screen"])
+        .args(["-qec", &format!("\"{PROGRAM}\" {call}"), "screen"])
         .current_dir(&folder.0)
         .stdin(Stdio::null())
         .stdout(Stdio::null())

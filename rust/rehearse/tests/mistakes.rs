@@ -279,9 +279,9 @@ fn a_reader_that_goes_away_is_no_fault() {
         "show good.path --json",
         "sign --show long",
     ] {
-        let command = format!("{PROGRAM} {call} 2>err | true; cat err");
+        let command = format!("\"$0\" {call} 2>err | true; cat err");
         let output = Command::new("sh")
-            .args(["-c", &command])
+            .args(["-c", &command, PROGRAM])
             .current_dir(&folder.0)
             .output()
             .unwrap();
@@ -324,13 +324,97 @@ fn a_file_is_read_up_to_its_limit() {
     }
 }
 
+/// A file of one line, as long as files can be, takes its own size and at most as much again. Memory grows with the size, so
+/// that a shorter file tells as well.
+#[test]
+fn a_file_of_one_line_takes_little_memory() {
+    const SIZE: usize = 16 << 20;
+    let folder = Folder::with_site();
+    for (name, start, rest) in [
+        ("letters", "", "n"),
+        ("words", "", "n "),
+        ("digits", "", "a"),
+        ("groups", "", "a "),
+        ("key", "station\nkey ", "a"),
+        ("behind", "behind ", "a "),
+        ("hop", "segment\nhop in 0 ", "n "),
+        ("time", "segment\ntimestamp ", "n"),
+    ] {
+        folder.write(
+            name,
+            start.to_string() + &rest.repeat((SIZE - start.len()) / rest.len()),
+        );
+    }
+    let step = |option: &str| format!("step good.path {option} {REST}");
+    let journey = "--earliest 1 --latest 2";
+    for (call, says) in [
+        ("show letters".into(), "letters is text and no path header"),
+        ("show - <letters".into(), "standard input is text and no path header"),
+        ("sign --show words".into(), "words is text and no path header"),
+        ("sign letters -o x".into(), "letters, line 1: write `path` or `segment`"),
+        ("sign groups -o x".into(), "groups, line 1: write `path` or `segment`"),
+        (
+            "sign behind -o x".into(),
+            "behind, line 1: there are more than 1,048,576 bytes",
+        ),
+        ("sign hop -o x".into(), "hop, line 2: `n` is not known here"),
+        ("sign time -o x".into(), "time, line 2: `nnn"),
+        (
+            "plan words -o x".into(),
+            "words, line 1: a plan starts with the word `station`",
+        ),
+        (
+            "plan key -o x".into(),
+            "key, line 2: write 32 hex digits behind `key`, not 16777204",
+        ),
+        (
+            format!("journey good.path words {journey}"),
+            "words, line 1: a plan starts",
+        ),
+        (
+            format!("journey --batch words {journey}"),
+            "line 1: this line is longer than two names",
+        ),
+        (
+            step("--plan key --station 0"),
+            "key, line 2: write 32 hex digits behind `key`",
+        ),
+        (
+            step("--table words --key 000102030405060708090a0b0c0d0e0f"),
+            "words, line 1: write `interface 1 child up`",
+        ),
+        (
+            step("--table 1:parent:up --key @digits"),
+            "--key: digits: write 32 hex digits, not 16777216",
+        ),
+    ] {
+        let (words, input) = call.split_once(" <").unwrap_or((&call, "empty"));
+        folder.write("empty", "");
+        let ran = Command::new("sh")
+            .args([
+                "-c",
+                "ulimit -v \"$0\"; exec \"$@\"",
+                &(3 * SIZE / 1024).to_string(),
+                PROGRAM,
+            ])
+            .args(words.split(' '))
+            .current_dir(&folder.0)
+            .stdin(std::fs::File::open(folder.0.join(input)).unwrap())
+            .output()
+            .unwrap();
+        let said = String::from_utf8_lossy(&ran.stdout) + String::from_utf8_lossy(&ran.stderr);
+        assert_eq!(ran.status.code(), Some(2), "{call}: {said}");
+        assert!(said.contains(says) && said.len() < 2_000, "{call}: {said}");
+    }
+}
+
 #[test]
 fn endless_input_is_refused() {
     let folder = Folder::new();
     for call in ["show -", "plan - -o x"] {
-        let command = format!("{PROGRAM} {call} < /dev/zero");
+        let command = format!("\"$0\" {call} < /dev/zero");
         let output = Command::new("sh")
-            .args(["-c", &command])
+            .args(["-c", &command, PROGRAM])
             .current_dir(&folder.0)
             .output()
             .unwrap();

@@ -66,8 +66,8 @@ fn a_new_file_with_keys_is_its_owner_s_alone() {
         "reverse good.path --write back.path",
         "sign good.txt --plan plan.txt -o good.hex",
         // A plan that is taken for a path.
-        "reverse site.plan --write copy; true",
-        "reverse site.plan --write copy.hex; true",
+        "reverse site.plan --raw --write copy; true",
+        "reverse site.plan --raw --write copy.hex; true",
     ] {
         let ran = shell(&folder, &format!("umask 002; $REHEARSE {call}"));
         assert_eq!(ran.status, 0, "{call}: {ran:?}");

@@ -6,11 +6,16 @@ use crate::answers::Answer;
 use crate::arguments::Arguments;
 use crate::files::{shown, without_mark, Files};
 use crate::json::Json;
-use crate::mistake::{mistake, Checked};
+use crate::mistake::{mistake, Checked, Mistake};
 use crate::output::{printable, shortened, Lines};
+use crate::quoting::may_hold_key;
 use crate::report::{counted, Report};
 use std::collections::BTreeMap;
 use std::ffi::OsStr;
+use std::path::Path;
+
+/// The most bytes of a line with two names. A list can be one line of many MiB.
+const LONGEST: usize = 65_536;
 
 /// A line of the list.
 struct Entry<'a> {
@@ -30,8 +35,8 @@ struct Summary {
 pub fn run(arguments: &Arguments, files: &Files) -> Checked<Report> {
     if let Some(word) = arguments.place(0) {
         return arguments.wrong(format!(
-            "`{}` does not go with --batch, which reads paths and plans from its list",
-            word.to_string_lossy()
+            "{} does not go with --batch, which reads paths and plans from its list",
+            shown(word)
         ));
     }
     let between = between(arguments)?;
@@ -45,10 +50,10 @@ pub fn run(arguments: &Arguments, files: &Files) -> Checked<Report> {
     let mut summary = Summary::default();
     // Without a reader the journeys are checked all the same: the status is that of all of them.
     for (at, entry) in entries(&list).enumerate() {
-        let names = entry.names(&of);
+        let place = format!("{of}, line {}", entry.line);
         let line = one(
             files,
-            (entry.line, names),
+            (&entry, &place),
             &between,
             arguments.flag("--json"),
             &mut summary,
@@ -76,16 +81,18 @@ fn entries<'a>(list: &'a [u8]) -> impl Iterator<Item = Entry<'a>> {
 
 impl<'a> Entry<'a> {
     /// A path and a plan, between them white space, or a tab where a name has spaces.
-    fn names(&self, of: &str) -> Checked<[&'a str; 2]> {
+    fn names(&self) -> Checked<[&'a str; 2]> {
         let is_control = |letter: char| letter.is_control() && letter != '\t';
-        let names = match self.said {
+        match self.said {
             None => mistake("there is a byte in this line that is no text: write the names in UTF-8"),
+            Some(said) if said.len() > LONGEST => {
+                mistake("this line is longer than two names can be: write a path and a plan")
+            }
             Some(said) if said.contains(is_control) => {
                 mistake("there is a control character in this line: write a path and a plan")
             }
             Some(said) => two_names(said),
-        };
-        names.or_else(|why| mistake(format!("{of}, line {}: {}", self.line, why.0)))
+        }
     }
 }
 
@@ -110,39 +117,44 @@ fn two_names(said: &str) -> Checked<[&str; 2]> {
         .or_else(|_| mistake("write a path and a plan, with a space between them, or a tab if a name has spaces"))
 }
 
-/// Checks the journey of one line, and gives what is printed of it.
+/// Whether a line's names can be shown. The list may be a plan by mistake, and a name without a file a key.
+fn can_be_shown(names: [&str; 2]) -> bool {
+    let is_there = |name: &&str| *name == "-" || Path::new(name).exists();
+    names.iter().all(is_there) || !may_hold_key(&names.join(" "))
+}
+
+/// Checks the journey of one line, and gives what is printed of it. `place` is where the line is.
 fn one(
     files: &Files,
-    (line, names): (usize, Checked<[&str; 2]>),
+    (entry, place): (&Entry<'_>, &str),
     between: &Between,
     as_json: bool,
     summary: &mut Summary,
 ) -> String {
-    let checking = match &names {
-        Ok([path, plan]) => check(files, OsStr::new(path), OsStr::new(plan), between),
-        Err(why) => mistake(&why.0),
-    };
+    let names = entry.names();
+    let shown = names.as_ref().ok().filter(|names| can_be_shown(**names)).copied();
+    let checking = names.and_then(|names| {
+        let [path, plan] = names.map(OsStr::new);
+        check(files, path, plan, between)
+    });
     let (label, why, mut json) = match checking {
         Ok(Checking { answer, report, why }) => (summary.count(&answer), why, report.json),
-        Err(mistake) => {
+        Err(Mistake(why)) => {
             summary.not_read += 1;
-            let json = mistake.json(Some("journey"));
-            ("not read".into(), Some(mistake.0), json)
+            let sentence = shown.map_or_else(|| format!("{place}: {why}"), |_| why.clone());
+            let json = Mistake::new(sentence).json(Some("journey"));
+            ("not read".into(), Some(why), json)
         }
     };
-    let names = names.ok();
     if as_json {
-        let name = |at: usize| names.map_or(Json::Null, |names| Json::text(names[at]));
-        json.push(("line", Json::number(line)));
+        let name = |at: usize| shown.map_or(Json::Null, |names| Json::text(names[at]));
+        json.push(("line", Json::number(entry.line)));
         json.push(("path_file", name(0)));
         json.push(("plan_file", name(1)));
         return format!("{}\n", names::object(Some("journey"), json));
     }
-    let said: Vec<String> = names
-        .map(|names| shortened(&names.join(" ")))
-        .into_iter()
-        .chain(why)
-        .collect();
+    let said = shown.map_or_else(|| place.into(), |names| shortened(&names.join(" ")));
+    let said: Vec<String> = std::iter::once(said).chain(why).collect();
     format!("{label:<11} {}\n", printable(&said.join(": ")))
 }
 

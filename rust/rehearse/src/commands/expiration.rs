@@ -16,13 +16,12 @@ pub const FORM: Form = Form {
 };
 
 pub fn run(arguments: &Arguments, files: &Files) -> Checked<Report> {
-    let mut notes = Vec::new();
-    let path = read_path(arguments, files, &mut notes)?;
+    let path = read_path(arguments, files)?;
     let answer = answers::of_expiration(standard_path::expiration(&path));
     let mut report = Report::of("expiration", &answer);
     if answer.is_good && Header(&path).has_gap() {
-        notes.push("the segments behind the first empty one are not looked at".into());
+        let note = "the segments behind the first empty one are not looked at";
+        report.notes.push(note.into());
     }
-    report.notes = notes;
     Ok(report)
 }

@@ -7,6 +7,8 @@ mod journey;
 mod names;
 mod plan;
 mod reverse;
+#[cfg(test)]
+mod secrets;
 mod show;
 mod sign;
 mod station;
@@ -15,15 +17,18 @@ mod step;
 use crate::arguments::{Arguments, Form};
 use crate::dates;
 use crate::files::{shown, Files, Made, Spelling};
+use crate::header::Header;
 use crate::hex;
 use crate::json::Json;
-use crate::mistake::{Checked, Mistake};
+use crate::mistake::{mistake, Checked, Mistake};
 use crate::nearest::nearest;
 use crate::output::printable;
+use crate::quoting::quoted;
 use crate::report::Report;
 use crate::seen;
 use crate::sentences::{self, Question};
 use crate::write::Holds;
+use standard_path::ForwardingKey;
 use std::ffi::{OsStr, OsString};
 
 /// What a call writes and how it ends.
@@ -86,7 +91,8 @@ pub fn run(words: &[OsString], files: &Files) -> Said {
         let word = name.to_string_lossy();
         let meant = nearest(&word, COMMANDS.iter().map(|command| command.form.command));
         let meant = meant.map_or(String::new(), |name| format!(", but {name} is"));
-        let sentence = format!("`{word}` is not a command of rehearse{meant}: see `rehearse --help`");
+        let word = quoted(&word);
+        let sentence = format!("{word} is not a command of rehearse{meant}: see `rehearse --help`");
         return wrong(None, &Mistake::new(sentence), as_json);
     };
     let words = &words[1..];
@@ -175,21 +181,29 @@ fn no_spelling(arguments: &Arguments) -> Checked<Spelling> {
 
 const PATH: &str = "the file with the path header";
 
-/// The path, and a note if it looks like the wrong file.
-fn read_path(arguments: &Arguments, files: &Files, notes: &mut Vec<String>) -> Checked<Vec<u8>> {
-    let name = arguments.file(0, PATH)?;
-    let path = files.read_path(name, spelling(arguments)?)?;
-    notes.extend(not_a_path(&path, name));
-    Ok(path)
+/// A path whose bytes are to be shown.
+fn read_path(arguments: &Arguments, files: &Files) -> Checked<Vec<u8>> {
+    path_to_show(files, arguments.file(0, PATH)?, spelling(arguments)?)
 }
 
-/// A note on bytes that would do as a plan.
-fn not_a_path(path: &[u8], name: &OsStr) -> Option<String> {
-    let note = || {
-        let name = shown(name);
-        format!("{name} is a plan by its bytes: `rehearse plan --show` shows it")
+/// The same by its file's name. A plan or a key in its place would be shown with it, and is a mistake, unless the call says
+/// that the bytes are a path's.
+fn path_to_show(files: &Files, name: &OsStr, spelling: Spelling) -> Checked<Vec<u8>> {
+    let path = files.read_path(name, spelling)?;
+    let why = match spelling {
+        Spelling::ByContent if seen::plan_as_path(&path) => "is a plan by its bytes: `rehearse plan --show` shows it",
+        Spelling::ByContent if is_key_size(&path) => "has 16 bytes, as a key has: a path with a hop has 24 or more",
+        _ => return Ok(path),
     };
-    seen::plan_as_path(path).then(note)
+    mistake(format!(
+        "{} {why} (--raw and --hex take it as a path all the same)",
+        shown(name)
+    ))
+}
+
+/// A path as long as a key, and too short for the hops that it names.
+fn is_key_size(path: &[u8]) -> bool {
+    path.len() == size_of::<ForwardingKey>() && Header(path).hops() > 0
 }
 
 /// The reading of a clock, and a note if it may have been meant otherwise.
@@ -228,7 +242,7 @@ fn write_left(file: Option<&OsStr>, files: &Files, [read, left]: [&[u8]; 2], rep
 
 /// A path as hex text, a line for each of its fields.
 fn path_lines(path: &[u8]) -> String {
-    hex::lines(path, crate::header::Header(path).sizes())
+    hex::lines(path, Header(path).sizes())
 }
 
 /// Where a command that makes a file writes it: a file, `-` for hex text on standard output, or nowhere with `--json`.

@@ -17,20 +17,18 @@ pub const FORM: Form = Form {
 
 pub fn run(arguments: &Arguments, files: &Files) -> Checked<Report> {
     let file = left_file(arguments)?;
-    let mut notes = Vec::new();
-    let before = read_path(arguments, files, &mut notes)?;
+    let before = read_path(arguments, files)?;
     let mut path = before.clone();
     let answer = answers::of_reversal(standard_path::try_reverse(&mut path));
     let mut report = Report::of("reverse", &answer);
     report.path_left(&before, &path);
     let header = Header(&path);
     if answer.is_good && (header.curr_inf(), header.curr_hf()) != (0, 0) {
-        notes.push(format!(
+        report.notes.push(format!(
             "the path stands at hop {} now: a journey back starts at hop 0, with the path turned around where it was delivered",
             header.curr_hf()
         ));
     }
-    report.notes = notes;
     write_left(file, files, [&before, &path], &mut report)?;
     Ok(report)
 }

@@ -21,8 +21,7 @@ pub const FORM: Form = Form {
 };
 
 pub fn run(arguments: &Arguments, files: &Files) -> Checked<Report> {
-    let mut notes = Vec::new();
-    let path = read_path(arguments, files, &mut notes)?;
+    let path = read_path(arguments, files)?;
     let header = Header(&path);
     let mut report = match answers::of_header(&path) {
         None => whole(header),
@@ -39,7 +38,6 @@ pub fn run(arguments: &Arguments, files: &Files) -> Checked<Report> {
         segments.push(show_unused(header, index, &mut report));
     }
     report.member("segments", Json::List(segments));
-    report.notes = notes;
     Ok(report)
 }
 

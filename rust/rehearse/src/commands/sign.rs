@@ -1,7 +1,7 @@
 //! `rehearse sign`: a path header from its text form, its MACs worked out, and back.
 
 use super::plan::turned_down;
-use super::{made_file, made_word, no_spelling, not_a_path, path_lines, spelling, write_made};
+use super::{made_file, made_word, no_spelling, path_lines, path_to_show, spelling, write_made};
 use crate::answers::{self, Answer};
 use crate::arguments::{Arguments, Form};
 use crate::dates;
@@ -174,7 +174,7 @@ fn show(arguments: &Arguments, files: &Files, name: &OsStr) -> Checked<Report> {
             return arguments.wrong(format!("--show prints the text, and takes no {option}: {instead}"));
         }
     }
-    let path = files.read_path(name, spelling(arguments)?)?;
+    let path = path_to_show(files, name, spelling(arguments)?)?;
     let behind = Header(&path).parts().1.len();
     let is_too_long = behind > MOST_BEHIND;
     let answer = match expiration(&path) {
@@ -202,6 +202,5 @@ fn show(arguments: &Arguments, files: &Files, name: &OsStr) -> Checked<Report> {
     report.member("infos", Json::number(Header(&path).infos()));
     report.member("text", Json::text(text));
     report.notes.extend(gap(Header(&path)));
-    report.notes.extend(not_a_path(&path, name));
     Ok(report)
 }

@@ -2,7 +2,7 @@
 
 use super::plan::turned_down;
 use crate::arguments::Arguments;
-use crate::files::{shown, without_mark, Files, Spelling};
+use crate::files::{plain_text, shown, without_mark, Files, Spelling};
 use crate::hex;
 use crate::interfaces;
 use crate::itinerary;
@@ -73,25 +73,30 @@ impl Named<'_> {
 }
 
 fn read_key(files: &Files, given: &str) -> Checked<ForwardingKey> {
-    let Some(name) = given.strip_prefix('@') else {
-        let digits: String = given.split_whitespace().collect();
-        return hex::exactly(&digits, "--key").or_else(|_| {
+    match given.strip_prefix('@') {
+        Some(name) => key_of_file(files, OsStr::new(name)),
+        None => hex::exactly(given).or_else(|why| {
             mistake(format!(
-                "--key: `{given}` is no key: write 32 hex digits, or @ and the name of a file with the key"
+                "--key: write 32 hex digits{why}; or @ and the name of a file with the key"
             ))
-        });
-    };
-    let bytes = files.read(OsStr::new(name))?;
-    // Sixteen bytes that are hex digits all of them are half a key.
-    let text = without_mark(&bytes);
-    let bytes = match hex::is_hex(text) {
-        true => hex::from_hex(text, name)?,
-        false => bytes,
-    };
-    bytes.try_into().or_else(|bytes: Vec<u8>| {
-        mistake(format!(
-            "{name} holds {} bytes and no key: a key has 16 bytes, or 32 hex digits",
+        }),
+    }
+}
+
+fn key_of_file(files: &Files, name: &OsStr) -> Checked<ForwardingKey> {
+    let bytes = files.read(name);
+    let bytes = bytes.or_else(|why| mistake(format!("--key: {}; a key itself is written without the @", why.0)))?;
+    let of = format!("--key: {}", shown(name));
+    match (ForwardingKey::try_from(&bytes[..]), plain_text(&bytes)) {
+        // Sixteen bytes that are hex digits all of them are half a key.
+        (Ok(key), _) if !hex::is_hex(without_mark(&bytes)) => Ok(key),
+        (_, Some(text)) => {
+            let wrong = |why| mistake(format!("{of}: write 32 hex digits{why}; 16 bytes do as well"));
+            hex::exactly(text).or_else(wrong)
+        }
+        (_, None) => mistake(format!(
+            "{of} has {} bytes: a key has 16, or 32 hex digits",
             bytes.len()
-        ))
-    })
+        )),
+    }
 }

@@ -94,7 +94,7 @@ fn call(
     let file = left_file(arguments)?;
 
     let station = named.read(files, spelling(arguments)?, &mut notes)?;
-    let before = read_path(arguments, files, &mut notes)?;
+    let before = read_path(arguments, files)?;
     let (ids, states): (Vec<u16>, Vec<u8>) = station.interfaces.into_iter().unzip();
     let at = At {
         interface: interface.unwrap_or(station.arrival),

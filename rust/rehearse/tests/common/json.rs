@@ -137,10 +137,7 @@ impl Reader<'_> {
                     Some('n') => '\n',
                     Some('r') => '\r',
                     Some('t') => '\t',
-                    Some('u') => {
-                        let digits: String = (0..4).map(|_| self.0.next().expect("a digit")).collect();
-                        char::from_u32(u32::from_str_radix(&digits, 16).unwrap()).unwrap()
-                    }
+                    Some('u') => self.numbered(),
                     Some(letter @ ('"' | '\\')) => letter,
                     letter => panic!("\\{letter:?}"),
                 }),
@@ -150,5 +147,21 @@ impl Reader<'_> {
                 }
             }
         }
+    }
+
+    /// A letter by its number; two numbers give a letter above U+FFFF.
+    fn numbered(&mut self) -> char {
+        let first = self.unit();
+        let mut units = vec![first];
+        if (0xd800..0xdc00).contains(&first) {
+            self.take("\\u");
+            units.push(self.unit());
+        }
+        String::from_utf16(&units).expect("a letter").chars().next().unwrap()
+    }
+
+    fn unit(&mut self) -> u16 {
+        let digits: String = (0..4).map(|_| self.0.next().expect("a digit")).collect();
+        u16::from_str_radix(&digits, 16).expect("four hex digits")
     }
 }
