@@ -64,7 +64,8 @@ def try_change(check, name, occurrence, old, new):
 
 
 def try_all(check):
-    shutil.copytree(SOURCE, COPY)
+    # Without the files' times: cargo takes what is older than its last build, which was of a wrong change, for built.
+    shutil.copytree(SOURCE, COPY, copy_function=shutil.copyfile)
     if not succeeds(BUILD) or not succeeds(check):
         sys.exit("the check fails on the unchanged Rust")
     lines = (HERE / "mutations.tsv").read_text().splitlines()
