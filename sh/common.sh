@@ -1,5 +1,14 @@
 # What the scripts share: a folder of their own, an end by signals, a bound in time. It is sourced.
 
+# Nothing here can make up for that.
+case $PWD in
+*:* | *'
+'*)
+    echo "$0: the name of the repository's folder has a colon, which cargo does not take, or a line end, which rt does not" >&2
+    exit 2
+    ;;
+esac
+
 # After HUP, INT and TERM a script ends at once, with the signal's status. What it runs by `bounded` ends with it, and its folder
 # is removed.
 work= child=
