@@ -1,10 +1,10 @@
 # What the scripts share: a folder of their own, an end by signals, a bound in time. It is sourced.
 
-# Nothing here can make up for that.
+# What the tools do not take in the name of the repository's folder: cargo a colon, its linker lld a per cent sign, rt a line end.
 case $PWD in
-*:* | *'
+*[:%]* | *'
 '*)
-    echo "$0: the name of the repository's folder has a colon, which cargo does not take, or a line end, which rt does not" >&2
+    echo "$0: the repository's folder can't be one with a colon, a per cent sign or a line end in its name: cargo and rt fail there" >&2
     exit 2
     ;;
 esac
