@@ -4,9 +4,11 @@
     python3 mutate.py COMMAND      another check, run by the shell; it must fail. SCION_SDK_SRC names the changed copy
 
 A line has, between tabs: the file's last names, which occurrence of the old text is meant, the old text, the new text.
+A check that does not end fails, as a wrong change may make a loop endless. The copy is removed at the end, also after a signal.
 """
 import os
 import shutil
+import signal
 import subprocess
 import sys
 from pathlib import Path
@@ -16,12 +18,30 @@ SOURCE = HERE.parent / os.environ.get("SCION_SDK_SRC", "../shared/docs/src")
 COPY = HERE / "target/mutation/src"
 COMPARE = "target/mutation/checked/beside 100000 1 64 5000"
 BUILD = "cargo build --quiet --offline --locked --profile checked --target-dir target/mutation"
+LIMIT = 1800
+SIGNALS = [signal.SIGHUP, signal.SIGINT, signal.SIGTERM]
+
+
+def end(number, _):
+    for each in SIGNALS:
+        signal.signal(each, signal.SIG_IGN)
+    sys.exit(128 + number)
 
 
 def succeeds(command):
+    """Runs a command in a group of its own, which ends with this program and after LIMIT seconds."""
     environment = os.environ | {"SCION_SDK_SRC": str(COPY), "RUSTFLAGS": "-Awarnings"}
     shell = ["bash", "-o", "pipefail", "-c", command]
-    return subprocess.run(shell, cwd=HERE, env=environment, capture_output=True).returncode == 0
+    none = subprocess.DEVNULL
+    process = subprocess.Popen(shell, cwd=HERE, env=environment, stdin=none, stdout=none, stderr=none, start_new_session=True)
+    try:
+        return process.wait(LIMIT) == 0
+    except subprocess.TimeoutExpired:
+        return False
+    finally:
+        if process.poll() is None:
+            os.killpg(process.pid, signal.SIGKILL)
+            process.wait()
 
 
 def replace(text, occurrence, old, new):
@@ -43,10 +63,9 @@ def try_change(check, name, occurrence, old, new):
         file.write_text(text)
 
 
-def main():
-    check = " ".join(sys.argv[1:]) or COMPARE
-    shutil.rmtree(COPY, ignore_errors=True)
-    shutil.copytree(SOURCE, COPY)
+def try_all(check):
+    # Without the files' times: cargo takes what is older than its last build, which was of a wrong change, for built.
+    shutil.copytree(SOURCE, COPY, copy_function=shutil.copyfile)
     if not succeeds(BUILD) or not succeeds(check):
         sys.exit("the check fails on the unchanged Rust")
     lines = (HERE / "mutations.tsv").read_text().splitlines()
@@ -57,6 +76,18 @@ def main():
         print(f"{outcomes[-1]}: {name}: {old} -> {new}", flush=True)
     print(f"{outcomes.count('reported')} of {len(lines)} reported")
     sys.exit(outcomes.count("reported") != len(lines))
+
+
+def main():
+    for each in SIGNALS:
+        # What is ignored from the start, as by nohup, stays so.
+        if signal.getsignal(each) != signal.SIG_IGN:
+            signal.signal(each, end)
+    shutil.rmtree(COPY, ignore_errors=True)
+    try:
+        try_all(" ".join(sys.argv[1:]) or COMPARE)
+    finally:
+        shutil.rmtree(COPY, ignore_errors=True)
 
 
 main()

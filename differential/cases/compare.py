@@ -35,4 +35,4 @@ for line in sys.stdin:
         differences += 1
         print(f"{line}the model: {found}, left {path.hex()}\n")
 print(f"{compared} compared, {differences} differences")
-sys.exit(differences != 0)
+sys.exit(differences != 0 or compared == 0)

@@ -37,5 +37,5 @@ for call in "ingress", "egress", "step":
 for call in "reverse", "expiration":
     names[call] = without_table(call, names[call])
 with contextlib.redirect_stdout(io.StringIO()):
-    model.execute(model.split()[1], names)
+    names["main"]()
 print("\n".join(ROWS))

@@ -3,9 +3,8 @@
 
 mod common;
 
-use common::{Folder, PROGRAM};
+use common::{shell, Folder, PROGRAM};
 use std::path::Path;
-use std::process::Command;
 
 struct Example {
     line: usize,
@@ -51,23 +50,9 @@ fn run(name: &str, folder: &Path, least: usize) {
     let document = std::fs::read_to_string(root.join(name)).unwrap();
     let examples = examples(&document);
     assert!(examples.len() >= least, "{name} has {} examples", examples.len());
-    let path = format!(
-        "{}:{}",
-        Path::new(PROGRAM).parent().unwrap().display(),
-        std::env::var("PATH").unwrap()
-    );
     for Example { line, call, written } in examples {
-        let output = Command::new("sh")
-            .args(["-c", &format!("exec 2>&1\n{call}")])
-            .current_dir(folder)
-            .env("PATH", &path)
-            .output()
-            .unwrap();
-        assert_eq!(
-            String::from_utf8_lossy(&output.stdout),
-            written,
-            "{name}, line {line}: {call}"
-        );
+        let ran = shell(Path::new(PROGRAM), folder, &format!("exec 2>&1\n{call}"));
+        assert_eq!(ran.out, written, "{name}, line {line}: {call}");
     }
 }
 

@@ -652,16 +652,11 @@ fn long_texts_are_given_up_early() {
         "{}",
         ran.err
     );
-    let call =
-        format!("ulimit -v 200000; yes x | head -c 2000000 >list; \"$0\" journey --batch list {READINGS} | tail -n 1");
-    let ran = Command::new("sh")
-        .args(["-c", &call, PROGRAM])
-        .current_dir(&folder.0)
-        .output()
-        .unwrap();
-    let said = String::from_utf8(ran.stdout).unwrap();
+    let ran = folder.shell(&format!(
+        "ulimit -v 200000; yes x | head -c 2000000 >list; rehearse journey --batch list {READINGS} | tail -n 1"
+    ));
     assert_eq!(
-        said,
+        ran.out,
         "1000000 journeys: 0 passed, 0 not passed, 0 refused, 1000000 not read\n"
     );
 }

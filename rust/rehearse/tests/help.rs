@@ -75,15 +75,8 @@ fn each_example_runs() {
         assert!(!examples.is_empty(), "{name} has no example");
         // They can be typed one after the other, from an empty folder on.
         let (folder, typed) = (Folder::new(), examples.join(" && "));
-        let output = std::process::Command::new("sh")
-            .args(["-c", &typed.replace("rehearse ", &format!("{} ", common::PROGRAM))])
-            .current_dir(&folder.0)
-            .output()
-            .unwrap();
-        assert!(
-            output.status.success() && output.stderr.is_empty(),
-            "{typed}: {output:?}"
-        );
+        let ran = folder.shell(&typed);
+        assert!(ran.status == 0 && ran.err.is_empty(), "{typed}: {ran:?}");
     }
 }
 

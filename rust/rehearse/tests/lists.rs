@@ -3,8 +3,7 @@
 mod common;
 
 use common::json::{parse, Value};
-use common::{expect, Folder, PROGRAM, READINGS};
-use std::process::{Command, Stdio};
+use common::{expect, Folder, READINGS};
 
 /// The status is that of all journeys, also where nobody reads their lines.
 #[test]
@@ -18,13 +17,9 @@ fn a_list_without_a_reader_is_checked_to_its_end() {
     ] {
         folder.write("list", format!("{good}{last}\n"));
         for reader in ["true", "head -1"] {
-            let call = format!("{{ \"$0\" journey --batch list {READINGS}; echo $? >status; }} | {reader}");
-            let output = Command::new("sh")
-                .args(["-c", &call, PROGRAM])
-                .current_dir(&folder.0)
-                .output()
-                .unwrap();
-            assert!(output.stderr.is_empty(), "{output:?}");
+            let call = format!("{{ rehearse journey --batch list {READINGS}; echo $? >status; }} | {reader}");
+            let ran = folder.shell(&call);
+            assert!(ran.err.is_empty(), "{ran:?}");
             // The status is written once the list is through, which the reader does not wait for.
             let said = (0..600).find_map(|_| {
                 std::thread::sleep(std::time::Duration::from_millis(10));
@@ -64,13 +59,13 @@ fn each_bad_line_is_named_and_the_others_are_checked() {
 
 /// What stands on a terminal that a call writes to. `script` lends one; where it is not there, nothing is tried.
 fn screen(folder: &Folder, call: &str) -> Option<String> {
-    let script = Command::new("script")
-        .args(["-qec", &format!("\"{PROGRAM}\" {call}"), "screen"])
-        .current_dir(&folder.0)
-        .stdin(Stdio::null())
-        .stdout(Stdio::null())
-        .status();
-    assert!(script.ok()?.success());
+    let ran = folder.shell(&format!(
+        "command -v script || exit 3; SHELL=/bin/sh script -qec 'rehearse {call}' screen </dev/null >/dev/null"
+    ));
+    if ran.status == 3 {
+        return None;
+    }
+    assert_eq!(ran.status, 0, "{ran:?}");
     Some(String::from_utf8_lossy(&folder.read("screen")).into_owned())
 }
 

@@ -3,8 +3,7 @@
 
 mod common;
 
-use common::{expect, Folder, PROGRAM};
-use std::process::{Command, Stdio};
+use common::{expect, Folder};
 
 const STEP: &str = "--table 1:parent:up --key 30a1f2c4b5d697e8091a2b3c4d5e6f70 --interface 0 --now 1794809100";
 const REST: &str = "--interface 0 --now 1794809100";
@@ -279,29 +278,19 @@ fn a_reader_that_goes_away_is_no_fault() {
         "show good.path --json",
         "sign --show long",
     ] {
-        let command = format!("\"$0\" {call} 2>err | true; cat err");
-        let output = Command::new("sh")
-            .args(["-c", &command, PROGRAM])
-            .current_dir(&folder.0)
-            .output()
-            .unwrap();
-        assert_eq!((&output.stdout[..], &output.stderr[..]), (&b""[..], &b""[..]), "{call}");
+        let ran = folder.shell(&format!("rehearse {call} 2>err | true; cat err"));
+        assert_eq!((&ran.out[..], &ran.err[..]), ("", ""), "{call}");
     }
 }
 
 #[test]
 fn a_screen_that_can_not_be_written_is_said() {
-    let Ok(full) = std::fs::OpenOptions::new().write(true).open("/dev/full") else {
+    if !std::path::Path::new("/dev/full").exists() {
         return;
-    };
-    let output = Command::new(PROGRAM)
-        .arg("demo")
-        .stdout(full)
-        .stderr(Stdio::piped())
-        .output()
-        .unwrap();
-    assert_eq!(output.status.code(), Some(2));
-    assert!(String::from_utf8_lossy(&output.stderr).starts_with("rehearse: standard output can't be written"));
+    }
+    let ran = Folder::new().shell("rehearse demo >/dev/full");
+    assert_eq!(ran.status, 2);
+    assert!(ran.err.starts_with("rehearse: standard output can't be written"));
 }
 
 /// The limit of what is read is 64 MiB, to the byte.
@@ -388,22 +377,9 @@ fn a_file_of_one_line_takes_little_memory() {
             "--key: digits: write 32 hex digits, not 16777216",
         ),
     ] {
-        let (words, input) = call.split_once(" <").unwrap_or((&call, "empty"));
-        folder.write("empty", "");
-        let ran = Command::new("sh")
-            .args([
-                "-c",
-                "ulimit -v \"$0\"; exec \"$@\"",
-                &(3 * SIZE / 1024).to_string(),
-                PROGRAM,
-            ])
-            .args(words.split(' '))
-            .current_dir(&folder.0)
-            .stdin(std::fs::File::open(folder.0.join(input)).unwrap())
-            .output()
-            .unwrap();
-        let said = String::from_utf8_lossy(&ran.stdout) + String::from_utf8_lossy(&ran.stderr);
-        assert_eq!(ran.status.code(), Some(2), "{call}: {said}");
+        let ran = folder.shell(&format!("ulimit -v {}; exec rehearse {call}", 3 * SIZE / 1024));
+        let said = ran.out + &ran.err;
+        assert_eq!(ran.status, 2, "{call}: {said}");
         assert!(said.contains(says) && said.len() < 2_000, "{call}: {said}");
     }
 }
@@ -412,16 +388,8 @@ fn a_file_of_one_line_takes_little_memory() {
 fn endless_input_is_refused() {
     let folder = Folder::new();
     for call in ["show -", "plan - -o x"] {
-        let command = format!("\"$0\" {call} < /dev/zero");
-        let output = Command::new("sh")
-            .args(["-c", &command, PROGRAM])
-            .current_dir(&folder.0)
-            .output()
-            .unwrap();
-        assert_eq!(output.status.code(), Some(2), "{call}");
-        assert!(
-            String::from_utf8_lossy(&output.stderr).contains("more than 64 MiB"),
-            "{call}"
-        );
+        let ran = folder.shell(&format!("rehearse {call} < /dev/zero"));
+        assert_eq!(ran.status, 2, "{call}");
+        assert!(ran.err.contains("more than 64 MiB"), "{call}");
     }
 }

@@ -4,12 +4,12 @@
 
 mod common;
 
-use common::{Folder, Ran, HALL_A, PROGRAM, READINGS};
+use common::{within, Folder, Ran, HALL_A, LIMIT, PROGRAM, READINGS};
 use std::fs::{self, Metadata, Permissions};
 use std::os::unix::fs::{chown, symlink, MetadataExt, PermissionsExt};
 use std::os::unix::process::CommandExt;
 use std::path::Path;
-use std::process::{Command, Output};
+use std::process::Command;
 
 /// A user who is not root.
 const SOMEBODY: u32 = 65_534;
@@ -22,24 +22,12 @@ fn allow(folder: &Folder, name: &str, mode: u32) {
     fs::set_permissions(folder.0.join(name), Permissions::from_mode(mode)).unwrap();
 }
 
-fn ran(output: Output) -> Ran {
-    Ran {
-        out: String::from_utf8(output.stdout).unwrap(),
-        err: String::from_utf8(output.stderr).unwrap(),
-        status: output.status.code().expect("an exit status"),
-    }
-}
-
-fn shell(folder: &Folder, script: &str) -> Ran {
-    let mut command = Command::new("sh");
-    command.args(["-c", script]).env("REHEARSE", PROGRAM);
-    ran(command.current_dir(&folder.0).output().unwrap())
-}
-
 /// A call by somebody whom rights keep out of something, or nothing where root can't be anybody else.
 fn by_somebody(folder: &Folder, call: &str) -> Option<Ran> {
     let (mut command, place) = (Command::new(PROGRAM), Folder::new());
     if fs::metadata(&folder.0).unwrap().uid() == 0 {
+        // Some systems do not let root be another.
+        Command::new("true").uid(SOMEBODY).status().ok()?;
         // The program may lie where only root gets to. It is copied by a process of its own: a file that is open for writing
         // can't be run, and a call of another test may have it open for a moment.
         let copied = Command::new("cp").args([PROGRAM, "."]).current_dir(&place.0).status();
@@ -49,8 +37,8 @@ fn by_somebody(folder: &Folder, call: &str) -> Option<Ran> {
         command = Command::new(place.0.join("rehearse"));
         command.uid(SOMEBODY).gid(SOMEBODY);
     }
-    let output = command.args(call.split(' ')).current_dir(&folder.0).output();
-    output.ok().map(ran)
+    command.args(call.split(' ')).current_dir(&folder.0);
+    Some(within(LIMIT, &mut command, b"").unwrap_or_else(|late| panic!("{late}")))
 }
 
 /// A new file with keys is its owner's alone; one without has the rights that the owner gives to new files.
@@ -69,7 +57,7 @@ fn a_new_file_with_keys_is_its_owner_s_alone() {
         "reverse site.plan --raw --write copy; true",
         "reverse site.plan --raw --write copy.hex; true",
     ] {
-        let ran = shell(&folder, &format!("umask 002; $REHEARSE {call}"));
+        let ran = folder.shell(&format!("umask 002; rehearse {call}"));
         assert_eq!(ran.status, 0, "{call}: {ran:?}");
     }
     for name in "plan.txt site.plan new.plan new.hex behind-link copy copy.hex".split(' ') {
@@ -201,10 +189,7 @@ fn a_file_of_another_s_gives_nobody_more() {
 #[test]
 fn what_a_killed_call_left_is_in_nobody_s_way() {
     let folder = Folder::with_site();
-    let ran = shell(
-        &folder,
-        "touch .rehearse-$$.part; exec $REHEARSE plan plan.txt -o new.plan",
-    );
+    let ran = folder.shell("touch .rehearse-$$.part; exec rehearse plan plan.txt -o new.plan");
     assert_eq!(ran.status, 0, "{ran:?}");
     assert_eq!(folder.read("new.plan"), folder.read("site.plan"));
 }
@@ -266,7 +251,7 @@ fn the_advice_fits() {
         let ran = folder.run(&format!("plan plan.txt -o {out}"));
         assert!(ran.status == 2 && ran.err.trim_end().ends_with(advice), "{ran:?}");
     }
-    let ran = shell(&folder, "ulimit -f 0; trap '' XFSZ; $REHEARSE plan plan.txt -o out");
+    let ran = folder.shell("ulimit -f 0; trap '' XFSZ; rehearse plan plan.txt -o out");
     let advice = "free some space, or name a file on another disk";
     assert!(ran.status == 2 && ran.err.trim_end().ends_with(advice), "{ran:?}");
     assert!(!folder.0.join("out").exists());

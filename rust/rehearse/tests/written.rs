@@ -3,9 +3,8 @@
 
 mod common;
 
-use common::{Folder, PROGRAM};
+use common::Folder;
 use std::io::Write;
-use std::process::Command;
 
 const STEP: &str = "--table table.txt --key @key --interface 0 --now 1794809100";
 
@@ -79,12 +78,8 @@ fn a_file_behind_standard_input_is_not_written() {
     }
     let folder = folder();
     let before = folder.read("plan.txt");
-    let output = Command::new("sh")
-        .args(["-c", &format!("{PROGRAM} plan - -o plan.txt < plan.txt")])
-        .current_dir(&folder.0)
-        .output()
-        .unwrap();
-    assert_eq!((output.status.code(), folder.read("plan.txt")), (Some(2), before));
+    let ran = folder.shell("rehearse plan - -o plan.txt < plan.txt");
+    assert_eq!((ran.status, folder.read("plan.txt")), (2, before));
     // A device may be both.
     assert_eq!(folder.run("sign /dev/null -o /dev/null").status, 1);
 }
@@ -200,13 +195,8 @@ fn half_a_file_is_never_left() {
     folder.write("long", &long);
     let before: &[u8] = b"\0\0\0\0as it was";
     folder.write("out", before);
-    let call = format!("ulimit -f 1; trap '' XFSZ; {PROGRAM} reverse long --write out");
-    let ran = Command::new("sh")
-        .args(["-c", &call])
-        .current_dir(&folder.0)
-        .output()
-        .unwrap();
-    assert_eq!(ran.status.code(), Some(2), "{ran:?}");
+    let ran = folder.shell("ulimit -f 1; trap '' XFSZ; rehearse reverse long --write out");
+    assert_eq!(ran.status, 2, "{ran:?}");
     assert_eq!(folder.read("out"), before);
     let names: Vec<_> = std::fs::read_dir(&folder.0)
         .unwrap()
@@ -224,13 +214,8 @@ fn half_a_file_is_never_left() {
 #[test]
 fn a_file_is_written_by_several_calls_at_once() {
     let folder = Folder::with_site();
-    let calls = "for call in 1 2 3 4 5 6; do $0 plan plan.txt -o shared & done; wait";
-    let ran = Command::new("sh")
-        .args(["-c", calls, PROGRAM])
-        .current_dir(&folder.0)
-        .output()
-        .unwrap();
-    assert!(ran.stderr.is_empty(), "{ran:?}");
+    let ran = folder.shell("for call in 1 2 3 4 5 6; do rehearse plan plan.txt -o shared & done; wait");
+    assert!(ran.err.is_empty(), "{ran:?}");
     assert_eq!(folder.read("shared"), folder.read("site.plan"));
 }
 
@@ -265,15 +250,9 @@ fn a_file_that_is_written_stays_what_it_is() {
     symlink("new", folder.0.join("dangling")).unwrap();
     assert_eq!(folder.run("plan plan.txt -o dangling").status, 0);
     assert_eq!(folder.read("new"), folder.read("site.plan"));
-    // Whoever reads the pipe is let go in any case.
-    let call = format!("mkfifo pipe; cat pipe >got & {PROGRAM} plan plan.txt -o pipe || : >pipe; wait");
-    let ran = Command::new("sh")
-        .args(["-c", &call])
-        .current_dir(&folder.0)
-        .output()
-        .unwrap();
-    assert!(ran.status.success(), "{ran:?}");
-    assert_eq!(folder.read("got"), folder.read("site.plan"));
+    let pipe = common::Pipe::new(&folder, "pipe");
+    assert_eq!(folder.run("plan plan.txt -o pipe").status, 0);
+    assert_eq!(pipe.written(), folder.read("site.plan"));
     let long = "n".repeat(250);
     assert_eq!(folder.run(&format!("plan plan.txt -o {long}")).status, 0);
 }
