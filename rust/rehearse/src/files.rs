@@ -29,8 +29,8 @@ pub enum Files {
 /// What is made for a file.
 pub struct Made<'a> {
     pub bytes: &'a [u8],
-    /// The same as hex text.
-    pub hex: &'a str,
+    /// Makes hex text of them, where it is asked for: that of a long file takes twice its memory.
+    pub as_hex: fn(&[u8]) -> String,
     pub holds: Holds,
 }
 
@@ -139,7 +139,8 @@ impl Files {
             return mistake("the name of the file to write is empty: name a file");
         }
         let is_hex = name.to_string_lossy().ends_with(".hex");
-        let content = if is_hex { made.hex.as_bytes() } else { made.bytes };
+        let hex = is_hex.then(|| (made.as_hex)(made.bytes));
+        let content = hex.as_ref().map_or(made.bytes, |hex| hex.as_bytes());
         match self {
             Files::Memory(files) => {
                 files.borrow_mut().insert(name.to_owned(), content.to_vec());

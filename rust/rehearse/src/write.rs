@@ -1,7 +1,7 @@
 //! Writing a file: all of it, or what was there stays.
 
 use crate::by_hand;
-use crate::files::LIMIT;
+use crate::files::{shown, LIMIT};
 use crate::mistake::{mistake, Checked};
 use crate::part::{folder_of, names, Part};
 use crate::rights;
@@ -34,7 +34,7 @@ pub fn whole(name: &Path, content: &[u8], holds: Holds) -> Checked<()> {
     let mut tries = std::iter::repeat_with(|| written(name, content, holds)).take(8);
     let is_settled = |written: &Result<(), Why>| !matches!(written, Err(why) if why == CHANGED);
     let written = tries.find(is_settled).unwrap_or(Err(CHANGED.into()));
-    written.or_else(|why| mistake(format!("{} {why}", name.display())))
+    written.or_else(|why| mistake(format!("{} {why}", shown(name.as_os_str()))))
 }
 
 fn written(name: &Path, content: &[u8], holds: Holds) -> Result<(), Why> {

@@ -210,6 +210,21 @@ fn half_a_file_is_never_left() {
     assert_eq!(folder.read("out").len(), 8 << 20);
 }
 
+/// Hex text of it is not made where it is not asked for.
+#[test]
+fn a_long_file_is_written_in_little_memory() {
+    const SIZE: usize = 16 << 20;
+    let folder = Folder::with_site();
+    let mut long = folder.read("good.path");
+    long.resize(SIZE, 7);
+    folder.write("long", &long);
+    let ran = folder.shell(&format!(
+        "ulimit -v {}; exec rehearse reverse long --write out",
+        3 * SIZE / 1024
+    ));
+    assert_eq!((ran.status, folder.read("out").len()), (0, SIZE), "{}", ran.err);
+}
+
 /// Calls that write one file at the same time all write it.
 #[test]
 fn a_file_is_written_by_several_calls_at_once() {

@@ -2,7 +2,8 @@
 
 use super::Said;
 use crate::arguments::{Arguments, Form};
-use crate::files::{Files, Made};
+use crate::files::{shown, Files, Made};
+use crate::hex;
 use crate::json::Json;
 use crate::mistake::{mistake, Checked};
 use crate::output::printable;
@@ -114,7 +115,7 @@ fn site() -> Files {
     for (name, content) in FILES {
         let made = Made {
             bytes: content.as_bytes(),
-            hex: "",
+            as_hex: hex::to_hex,
             holds: holds(name),
         };
         // The memory takes every file.
@@ -180,7 +181,7 @@ fn write_all(folder: &Path, files: &[(&str, Vec<u8>)]) -> Checked<()> {
     if let Err(error) = fs::create_dir_all(folder) {
         return mistake(format!(
             "{} can't be made ({error}): name another folder",
-            folder.display()
+            shown(folder.as_os_str())
         ));
     }
     let mut missing = Vec::new();
@@ -204,7 +205,7 @@ fn is_there(name: &Path, content: &[u8]) -> Checked<bool> {
         Ok(about) if is_example(&about) => Ok(true),
         _ => mistake(format!(
             "{} is there already and is not the example's: name another folder",
-            name.display()
+            shown(name.as_os_str())
         )),
     }
 }

@@ -234,7 +234,7 @@ fn write_left(file: Option<&OsStr>, files: &Files, [read, left]: [&[u8]; 2], rep
     };
     let made = Made {
         bytes: left,
-        hex: &path_lines(left),
+        as_hex: path_lines,
         holds,
     };
     write_made(file, files, &made, report)
@@ -266,7 +266,7 @@ fn made_word(file: Option<&OsStr>) -> &'static str {
 fn write_made(file: Option<&OsStr>, files: &Files, made: &Made<'_>, report: &mut Report) -> Checked<()> {
     match file {
         None => {}
-        Some(name) if name == "-" => report.text = made.hex.into(),
+        Some(name) if name == "-" => report.text = (made.as_hex)(made.bytes),
         Some(name) => {
             files.write(name, made)?;
             report.written(name);

@@ -61,7 +61,7 @@ fn write(arguments: &Arguments, files: &Files) -> Checked<Report> {
     report.notes.extend(refused);
     let made = Made {
         bytes: &bytes,
-        hex: &hex::lines(&bytes, []),
+        as_hex: |bytes| hex::lines(bytes, []),
         holds: Holds::Keys,
     };
     write_made(file, files, &made, &mut report)?;

@@ -135,7 +135,7 @@ fn words(call: &str) -> Vec<OsString> {
 fn put(files: &Files, name: &str, content: &[u8]) {
     let made = Made {
         bytes: content,
-        hex: "",
+        as_hex: to_hex,
         holds: Holds::Keys,
     };
     assert!(files.write(OsStr::new(name), &made).is_ok());

@@ -71,7 +71,7 @@ fn write(arguments: &Arguments, files: &Files) -> Checked<Report> {
     }
     let made = Made {
         bytes: &signed.bytes,
-        hex: &path_lines(&signed.bytes),
+        as_hex: path_lines,
         holds: Holds::NoKeys,
     };
     write_made(file, files, &made, &mut report)?;
