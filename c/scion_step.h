@@ -1,5 +1,5 @@
 /*
- * SCION's standard-path step for C and C++ programs on x86-64 Linux.
+ * SCION's standard-path step for C (C99 on) and C++ (C++11 on) programs on x86-64 Linux.
  *
  * A call takes any bytes, any numbers and any lengths, and returns. What it promises is its contract in
  * crates/exports/src/calls.rt. Only the pointers are trusted:

@@ -2,8 +2,10 @@
 
 use crate::mistake::{mistake, Checked};
 use crate::nearest::nearest;
-use crate::quoting::quoted;
+use crate::output::shortened;
+use crate::quoting::{quoted, quoted_time};
 use std::ffi::{OsStr, OsString};
+use std::path::Path;
 
 /// What a command takes.
 pub struct Form {
@@ -61,7 +63,7 @@ impl Arguments {
             None => Ok(read),
             Some(word) => read.wrong(format!(
                 "{} is one word too many; a file name or a date with a space goes between quotes",
-                quoted(&word.to_string_lossy())
+                word_shown(word)
             )),
         }
     }
@@ -178,5 +180,14 @@ impl Arguments {
                 quoted(text)
             )),
         }
+    }
+}
+
+/// A word that may be a file's name or a time.
+fn word_shown(word: &OsStr) -> String {
+    let text = word.to_string_lossy();
+    match Path::new(word).exists() {
+        true => format!("`{}`", shortened(&text)),
+        false => quoted_time(&text),
     }
 }

@@ -5,6 +5,7 @@ use crate::hex::from_hex;
 use crate::hop_text::{hop, reserved_flags, HopText};
 use crate::lines::{lines, once, Line};
 use crate::mistake::{mistake, Checked};
+use crate::output;
 use crate::quoting::quoted;
 
 /// The most bytes behind a header that the text form takes, both ways.
@@ -228,6 +229,12 @@ impl Reader {
         // They are counted before they are put together: a line can be as long as a file.
         if self.behind.len() + digits().count() / 2 > MOST_BEHIND {
             return line.wrong("there are more than 1,048,576 bytes behind the header: leave some out");
+        }
+        let is_wrong = |letter: char| !letter.is_ascii_hexdigit() && !letter.is_whitespace();
+        let start = line.said.chars().count() - said.chars().count();
+        if let Some((at, wrong)) = said.chars().enumerate().find(|&(_, letter)| is_wrong(letter)) {
+            let (place, wrong) = (start + at + 1, output::letter(wrong));
+            return line.wrong(format!("character {place} is {wrong} and no hex digit"));
         }
         let digits: String = digits().collect();
         self.behind.extend(from_hex(digits.as_bytes(), &line.place())?);

@@ -2,22 +2,29 @@
 //!
 //! Plans and calls have keys in them, and a slip of the hand puts a key, or a part of it, where another word is read. So
 //! eight hex digits one behind the other are not quoted: they may be of a key. What is said instead is how long the word
-//! is. Signs between digits do not part them (`30:a1:f2:c4`, `0x30, 0xa1`), other letters do.
+//! is. Signs between digits do not part them (`30:a1:f2:c4`, `0x30, 0xa1`), other letters do; but a word that is sixteen
+//! hex digits for the most part is a key with slips.
 //!
 //! Times and the names of files have digits of their own. In their places up to 18 digits, as many as a date with its time
 //! and its zone has, are quoted, unless letters from a to f are mixed with them (`e5f60718`, but not `hall-a-20261116`).
 
 use crate::output::shortened;
+use std::ffi::OsString;
 
 /// The fewest hex digits that are taken for a part of a key.
 const FEWEST: usize = 8;
+
+/// The fewest that are taken for it where other letters part them.
+const FEWEST_PARTED: usize = 16;
 
 /// The most digits of a time or a date.
 const DATE: usize = 18;
 
 /// A word between backquotes, or how long it is if it may hold a key.
 pub fn quoted(word: &str) -> String {
-    match has_digits(word, |digits, _| digits >= FEWEST) {
+    let digits = word.chars().filter(char::is_ascii_hexdigit).count();
+    let is_parted = digits >= FEWEST_PARTED && 2 * digits > word.chars().count();
+    match is_parted || has_digits(word, |digits, _| digits >= FEWEST) {
         true => left_out("word", word),
         false => format!("`{}`", shortened(word)),
     }
@@ -36,10 +43,20 @@ pub fn may_hold_key(text: &str) -> bool {
     has_digits(text, |digits, is_mixed| digits >= FEWEST && (is_mixed || digits > DATE))
 }
 
-/// What is said of a text that may hold a key; `what` is what it should be.
+/// What is said of a text that may hold a key; `what` is what it should be. A word of the call is told by its place there.
 pub fn left_out(what: &str, text: &str) -> String {
     let letters = text.chars().count();
-    format!("a {what} of {letters} letters that may hold a key")
+    let place = place_in(std::env::args_os().skip(1), text);
+    let place = place.map_or(String::new(), |place| format!("word {place} of the call, "));
+    format!("{place}a {what} of {letters} letters that may hold a key")
+}
+
+/// The place of a word, counted from 1; it may be the value behind an option's `=` or a name behind `@`.
+fn place_in(words: impl Iterator<Item = OsString>, text: &str) -> Option<usize> {
+    let mut words = words.map(|word| word.to_string_lossy().into_owned());
+    let is_it =
+        |word: String| word == text || word.ends_with(&format!("={text}")) || word.ends_with(&format!("@{text}"));
+    words.position(is_it).map(|at| at + 1)
 }
 
 /// Whether hex digits of a key stand in a text. `are_key` is asked with their number and whether letters are mixed with
@@ -98,6 +115,7 @@ mod tests {
             KEY[24..].into(),
             "é30a1f2c4".into(),
         ];
+        assert_ne!(quoted("30a1f2cgb5d697eg091a2b3g"), "`30a1f2cgb5d697eg091a2b3g`");
         keys.extend([":", " ", "-", ", ", "\u{200b}", "\u{a0}", "_"].map(|sign| pairs.join(sign)));
         keys.extend([4, 8, 16].map(|size| {
             let groups: Vec<&str> = (0..32 / size).map(|at| &KEY[at * size..(at + 1) * size]).collect();
@@ -111,6 +129,16 @@ mod tests {
             assert!(may_hold_key(&digits), "{digits}");
         }
         assert_ne!(quoted("12345678"), "`12345678`");
+    }
+
+    #[test]
+    fn a_word_is_told_by_its_place() {
+        let call = ["step", "p", "--key=30a1f2c4", "--plan", "e5f60718", "@b5d697e8"];
+        let place = |text: &str| place_in(call.iter().map(OsString::from), text);
+        assert_eq!(
+            ["30a1f2c4", "e5f60718", "b5d697e8", "30a1"].map(place),
+            [Some(3), Some(5), Some(6), None]
+        );
     }
 
     #[test]

@@ -35,6 +35,10 @@ pub fn beside(error: JourneyError, path: &[u8], (plan, read): (&[u8], &Read), re
     if path_as_plan(plan) {
         seen.push("the plan is a path by its bytes: the path is named first, then the plan".into());
     }
+    // What would be read of a plan as of a path is bytes of its keys.
+    if plan_as_path(path) {
+        return seen;
+    }
     match error {
         JourneyError::UnfitItinerary => seen.extend(in_plan(header, read, readings)),
         JourneyError::NotAtStart => {

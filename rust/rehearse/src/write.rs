@@ -25,8 +25,8 @@ type Why = String;
 const CHECK: &str = "check the name, or name another file";
 const CHANGED: &str = "is not as it was when the call began: look at it and its folder, and call again";
 const CLOSED: &str =
-    "is in a folder that nothing may be put into, and a file is first written beside its place: ask for the \
-                      right to write there, or name a file in another folder";
+    "is in a folder where you may make no file, and a file is first written beside its place: ask for the right to \
+     write there, or name a file in another folder";
 
 /// Writes all of a file, or leaves what is there. What is no plain file, as a pipe, is written as it is.
 pub fn whole(name: &Path, content: &[u8], holds: Holds) -> Checked<()> {
@@ -127,7 +127,7 @@ impl Old {
             Ok(file) => file,
             Err(error) if error.kind() == ErrorKind::NotFound => return Ok(None),
             Err(error) if error.kind() == ErrorKind::PermissionDenied => {
-                return Err("may not be both read and written: ask for the right to it, or name another file".into());
+                return Err("is not yours to read and write: ask for both rights, or name another file".into());
             }
             Err(error) => return Err(cannot(CHECK)(error)),
         };

@@ -113,6 +113,7 @@ fn what_is_being_written_is_open_to_nobody_else() {
             assert_eq!(folder.run("reverse long --write sub/open").status, 0);
         }
     });
+    assert!(!parts.is_empty());
     let is_fit = |part: &&Metadata| part.mode() & 0o077 == 0 || part.len() == 2 << 20;
     let wrong = parts.iter().find(|part| !is_fit(part));
     assert!(wrong.is_none(), "{wrong:?} among {} sights", parts.len());
@@ -210,10 +211,10 @@ fn what_may_not_be_replaced_stays() {
     allow(&folder, "write-only", 0o222);
     allow(&folder, "read-only", 0o444);
     for (name, why) in [
-        ("closed/out", "is in a folder that nothing may be put into"),
-        ("closed/new", "is in a folder that nothing may be put into"),
-        ("write-only", "may not be both read and written"),
-        ("read-only", "may not be both read and written"),
+        ("closed/out", "is in a folder where you may make no file"),
+        ("closed/new", "is in a folder where you may make no file"),
+        ("write-only", "is not yours to read and write"),
+        ("read-only", "is not yours to read and write"),
     ] {
         let Some(ran) = by_somebody(&folder, &format!("plan plan.txt -o {name}")) else {
             return;

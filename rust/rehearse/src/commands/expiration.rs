@@ -1,6 +1,6 @@
 //! `rehearse expiration`: when a path ends.
 
-use super::read_path;
+use super::{path_to_ask, spelling, PATH};
 use crate::answers;
 use crate::arguments::{Arguments, Form};
 use crate::files::Files;
@@ -16,7 +16,7 @@ pub const FORM: Form = Form {
 };
 
 pub fn run(arguments: &Arguments, files: &Files) -> Checked<Report> {
-    let path = read_path(arguments, files)?;
+    let path = path_to_ask(files, arguments.file(0, PATH)?, spelling(arguments)?)?;
     let answer = answers::of_expiration(standard_path::expiration(&path));
     let mut report = Report::of("expiration", &answer);
     if answer.is_good && Header(&path).has_gap() {

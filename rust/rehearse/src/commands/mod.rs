@@ -5,10 +5,10 @@ mod demo;
 mod expiration;
 mod journey;
 mod names;
+#[cfg(test)]
+mod no_key_told;
 mod plan;
 mod reverse;
-#[cfg(test)]
-mod secrets;
 mod show;
 mod sign;
 mod station;
@@ -186,19 +186,31 @@ fn read_path(arguments: &Arguments, files: &Files) -> Checked<Vec<u8>> {
     path_to_show(files, arguments.file(0, PATH)?, spelling(arguments)?)
 }
 
-/// The same by its file's name. A plan or a key in its place would be shown with it, and is a mistake, unless the call says
-/// that the bytes are a path's.
+/// The same by its file's name. A key in its place would be shown with it, and is a mistake.
 fn path_to_show(files: &Files, name: &OsStr, spelling: Spelling) -> Checked<Vec<u8>> {
+    let path = path_to_ask(files, name, spelling)?;
+    let why = "has 16 bytes, as a key has: a path with a hop has 24 or more";
+    none_of_these(is_key_size(&path), why, name, spelling)?;
+    Ok(path)
+}
+
+/// A path that the library is asked about. A plan in its place is a mistake: what is said of it comes from its keys.
+fn path_to_ask(files: &Files, name: &OsStr, spelling: Spelling) -> Checked<Vec<u8>> {
     let path = files.read_path(name, spelling)?;
-    let why = match spelling {
-        Spelling::ByContent if seen::plan_as_path(&path) => "is a plan by its bytes: `rehearse plan --show` shows it",
-        Spelling::ByContent if is_key_size(&path) => "has 16 bytes, as a key has: a path with a hop has 24 or more",
-        _ => return Ok(path),
-    };
-    mistake(format!(
-        "{} {why} (--raw and --hex take it as a path all the same)",
-        shown(name)
-    ))
+    let why = "is a plan by its bytes: `rehearse plan --show` shows it";
+    none_of_these(seen::plan_as_path(&path), why, name, spelling)?;
+    Ok(path)
+}
+
+/// What is no path by its looks is a mistake, unless the call says that the bytes are a path's.
+fn none_of_these(is_one: bool, why: &str, name: &OsStr, spelling: Spelling) -> Checked<()> {
+    match spelling {
+        Spelling::ByContent if is_one => mistake(format!(
+            "{} {why} (--raw and --hex take it as a path all the same)",
+            shown(name)
+        )),
+        _ => Ok(()),
+    }
 }
 
 /// A path as long as a key, and too short for the hops that it names.
