@@ -3,7 +3,7 @@
 use crate::mistake::{mistake, Checked};
 use crate::nearest::nearest;
 use crate::output::shortened;
-use crate::quoting::{quoted, quoted_time};
+use crate::quoting::quoted;
 use std::ffi::{OsStr, OsString};
 use std::path::Path;
 
@@ -183,11 +183,11 @@ impl Arguments {
     }
 }
 
-/// A word that may be a file's name or a time.
+/// A word that has no place in the call. It may be half of a key, unless there is a file of that name.
 fn word_shown(word: &OsStr) -> String {
     let text = word.to_string_lossy();
     match Path::new(word).exists() {
         true => format!("`{}`", shortened(&text)),
-        false => quoted_time(&text),
+        false => quoted(&text),
     }
 }

@@ -507,6 +507,24 @@ fn a_plan_or_a_key_in_the_place_of_a_path_is_not_told() {
     }
 }
 
+/// A key with spaces in it, its second part of decimal digits alone; a file of that name is named.
+#[test]
+fn half_a_key_is_not_told() {
+    let folder = Folder::with_site();
+    let call = "step good.path --table 1:parent:up --key 30a1f2c4 12345678 --interface 0 --now 1";
+    let ran = folder.run(call);
+    assert!(
+        ran.status == 2
+            && ran
+                .err
+                .contains("word 7 of the call, a word of 8 letters that may hold a key"),
+        "{ran:?}"
+    );
+    assert!(!ran.err.contains("12345678"), "{ran:?}");
+    folder.write("12345678", "");
+    assert!(folder.run(call).err.contains("`12345678` is one word too many"));
+}
+
 /// Path and plan exchanged: nothing that is read of the plan as of a path is told, in whatever digits.
 #[test]
 fn a_plan_in_the_place_of_a_path_is_not_told_in_numbers() {
