@@ -1,6 +1,7 @@
 """A model of the journey check, written from the scope's text, with two ways to a verdict.
 
 `passes` is the list of conditions of a pass. `travels` drives the journey with the step of ../run_cases/expected.py.
+Both take the edition, the first if none is given.
 """
 import importlib.util
 import pathlib
@@ -116,8 +117,12 @@ def is_table_sound(table):
     return step_model.is_sound([number for number, _ in table], [state for _, state in table])
 
 
-def has_station_count(stations, header):
-    return len(stations) == header.hops - header.infos + 1
+def station_count(header, edition):
+    return header.hops if step_model.is_peering_path(header, edition) else header.hops - header.infos + 1
+
+
+def has_station_count(stations, header, edition=1):
+    return len(stations) == station_count(header, edition)
 
 
 def is_first_arrival_sound(stations):
@@ -144,13 +149,13 @@ def is_unalerted(header):
     return are_quiet(header, header.hops)
 
 
-def ask_journey(path, itinerary, earliest, latest):
+def ask_journey(path, itinerary, earliest, latest, edition):
     """The stations, if every question is answered yes."""
     header = step_model.ask_header(path)
     stations = [read_station(itinerary, station) for station in stations_reached(itinerary)]
     ask(is_itinerary_sound(itinerary), 23)
     ask(all(is_table_sound(station.table) for station in stations), 23)
-    ask(has_station_count(stations, header), 23)
+    ask(has_station_count(stations, header, edition), 23)
     ask(is_first_arrival_sound(stations) and are_later_arrivals_sound(stations), 23)
     ask(are_readings_sound(earliest, latest), 23)
     ask(is_at_start(header), 24)
@@ -186,9 +191,14 @@ def chained_macs(macs, place, cons_dir):
     return macs[:place] if cons_dir else macs[1 : place + 1]
 
 
-def does_mac_fit(header, info, hops, place, key):
+def mac_in_chain(header, hop, edition):
+    """A peering hop's head is in no chain, and 0 changes none."""
+    return bytes(6) if step_model.is_peering_hop(header, hop, edition) else header.mac(hop)
+
+
+def does_mac_fit(header, info, hops, place, key, edition):
     segment_id = header.segment_id(info)
-    for mac in chained_macs([header.mac(hop) for hop in hops], place, header.cons_dir(info)):
+    for mac in chained_macs([mac_in_chain(header, hop, edition) for hop in hops], place, header.cons_dir(info)):
         segment_id ^= u16(mac, 0)
     hop = hops[place]
     fields = header.timestamp(info), header.exp_time(hop), header.cons_ingress(hop), header.cons_egress(hop)
@@ -215,13 +225,31 @@ def is_pair_allowed(table, into, out):
     return (dict(table).get(into, 0) % 4, dict(table).get(out, 0) % 4) in ALLOWED
 
 
-def passes(stations, path, earliest, latest):
-    header = Header(path)
+def are_lengths_sound(header, edition):
     lengths = header.lengths
-    if not (is_first_used(lengths) and are_used_together(lengths) and are_long_enough(lengths)):
+    is_peering = step_model.is_peering_path(header, edition)
+    return is_first_used(lengths) and are_used_together(lengths) and (is_peering or are_long_enough(lengths))
+
+
+def is_peering_sound(header, edition):
+    return step_model.is_peering_sound(header, edition)
+
+
+def is_joint(header, info, place, edition):
+    """Whether the hop is the second of a segment change."""
+    return place == 0 and info != 0 and not step_model.is_peering_path(header, edition)
+
+
+def leaves(header, hop, place, length, edition):
+    return place + 1 != length or step_model.is_first_peering_hop(header, hop, edition)
+
+
+def passes(stations, path, earliest, latest, edition):
+    header = Header(path)
+    if not (are_lengths_sound(header, edition) and is_peering_sound(header, edition)):
         return False
     fits, hop, at = [], 0, 0
-    used = [(info, length) for info, length in enumerate(n for n in lengths if n != 0)]
+    used = [(info, length) for info, length in enumerate(n for n in header.lengths if n != 0)]
     for info, length in used:
         hops = range(hop, hop + length)
         fits.append(does_timestamp_fit(header.timestamp(info), earliest, latest))
@@ -229,15 +257,15 @@ def passes(stations, path, earliest, latest):
             station = stations[at]
             ingress, egress = header.travel_ingress(hop, info), header.travel_egress(hop, info)
             fits.append(does_expiry_fit(header.expiry(hop, info), earliest, latest))
-            fits.append(does_mac_fit(header, info, hops, place, station.key))
-            if place == 0 and info != 0:
+            fits.append(does_mac_fit(header, info, hops, place, station.key, edition))
+            if is_joint(header, info, place, edition):
                 before = header.travel_ingress(hop - 1, info - 1)
                 fits.append(does_next_ingress_fit(ingress, station.arrival))
                 fits.append(is_listed(station.table, before))
                 fits.append(is_pair_allowed(station.table, before, egress))
             elif at != 0:
                 fits.append(does_ingress_fit(ingress, station.arrival))
-            if place + 1 != length:
+            if leaves(header, hop, place, length, edition):
                 fits.append(leaves_by_up(station.table, egress))
                 at += 1
         hop += 1
@@ -247,13 +275,13 @@ def passes(stations, path, earliest, latest):
 # ---- The journey, written out
 
 
-def arrives(stations, path, readings):
+def arrives(stations, path, readings, edition):
     path = bytearray(path)
     for at, (station, reading) in enumerate(zip(stations, readings)):
         step_model.KEY = station.key
         ids, states = [number for number, _ in station.table], [state for _, state in station.table]
         try:
-            answer = step_model.go_through(path, ids, states, station.arrival, reading, False)
+            answer = step_model.go_through(path, ids, states, station.arrival, reading, False, edition)
         except No:
             return False
         last = at + 1 == len(stations)
@@ -262,18 +290,18 @@ def arrives(stations, path, readings):
     return True
 
 
-def travels(stations, path, earliest, latest):
+def travels(stations, path, earliest, latest, edition):
     lists = [[earliest] * len(stations), [latest] * len(stations)]
     lists += [[random.randint(earliest, latest) for _ in stations] for _ in range(8)]
-    return all(arrives(stations, path, readings) for readings in lists)
+    return all(arrives(stations, path, readings, edition) for readings in lists)
 
 
 # ---- the verdict, by `passes` or by `travels`
 
 
-def verdict(does_pass, path, itinerary, earliest, latest):
+def verdict(does_pass, path, itinerary, earliest, latest, edition=1):
     try:
-        stations = ask_journey(path, itinerary, earliest, latest)
+        stations = ask_journey(path, itinerary, earliest, latest, edition)
     except No as no:
         return f"refused {no.args[0]}"
-    return "passed" if does_pass(stations, path, earliest, latest) else "not passed"
+    return "passed" if does_pass(stations, path, earliest, latest, edition) else "not passed"

@@ -19,8 +19,8 @@ def are_used_hops_quiet(header):
     return model.are_quiet(header, sum(header.lengths[: header.used]))
 
 
-def has_enough_stations(stations, header):
-    return len(stations) >= header.hops - header.infos + 1
+def has_enough_stations(stations, header, edition):
+    return len(stations) >= model.station_count(header, edition)
 
 
 # the function of model.py that is wrong, and what stands for it

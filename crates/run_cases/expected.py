@@ -90,6 +90,9 @@ class Header:
     def cons_dir(self, info):
         return self.path[self.info_at(info)] & 1
 
+    def peering(self, info):
+        return self.path[self.info_at(info)] & 2
+
     def segment_id(self, info):
         return self.number(self.info_at(info) + 2, 2)
 
@@ -206,7 +209,65 @@ def ask_change(header, hop, info, table):
     ask((table[into] % 4, table[out] % 4) in ALLOWED, 16, hop)
 
 
+# ---- the second edition (added): peering paths. In the first there is none
+
+
+def is_peering_path(header, edition):
+    two = [length != 0 for length in header.lengths] == [True, True, False]
+    return edition == 2 and two and bool(header.peering(0) and header.peering(1))
+
+
+def is_first_peering_hop(header, hop, edition):
+    return is_peering_path(header, edition) and hop + 1 == header.lengths[0]
+
+
+def is_second_peering_hop(header, hop, edition):
+    return is_peering_path(header, edition) and hop == header.lengths[0]
+
+
+def is_peering_hop(header, hop, edition):
+    return is_first_peering_hop(header, hop, edition) or is_second_peering_hop(header, hop, edition)
+
+
+def is_peering_sound(header, edition):
+    """28's rule for P, of all info fields."""
+    return edition == 1 or is_peering_path(header, edition) or not any(map(header.peering, range(header.infos)))
+
+
+def ask_peering(header, info, edition):
+    ask(is_peering_sound(header, edition), 28)
+
+
+def is_long_enough(header, segment, edition):
+    return header.lengths[segment] > 1 or is_peering_path(header, edition)
+
+
+def changes_segment(header, hop, end, edition):
+    return hop + 1 == end and hop + 1 != header.hops and not is_peering_hop(header, hop, edition)
+
+
+def leaves_segment_end(header, hop, edition):
+    return is_first_peering_hop(header, hop, edition)
+
+
+def steps_at_ingress(header, hop, edition):
+    return not is_peering_hop(header, hop, edition)
+
+
+def steps_at_egress(header, hop, edition):
+    return not is_peering_hop(header, hop, edition)
+
+
+def moves_info_at_egress(header, hop, edition):
+    return is_first_peering_hop(header, hop, edition)
+
+
 # ---- the step: each half gives its answer as a text, and the interface to leave by if it goes on
+
+
+def ask_info_fields(header, info, segment, change):
+    ask(info < header.infos, 8, info)
+    ask(not change or segment + 1 < header.infos, 8, segment + 1)
 
 
 def ask_ingress(header, hop, info, change, table, interface, time, ignore_macs):
@@ -218,19 +279,19 @@ def ask_ingress(header, hop, info, change, table, interface, time, ignore_macs):
         ask_hop(header, hop + 1, info + 1, time, ignore_macs)
 
 
-def go_in(path, ids, states, interface, time, ignore_macs):
+def go_in(path, ids, states, interface, time, ignore_macs, edition=1):
     header = ask_before(path, ids, states)
     hop, info = header.curr_hf, header.curr_inf
     ask(hop < header.hops, 5, hop)
     segment, end = header.segment(hop)
-    ask(header.lengths[segment] > 1, 6)
+    ask(is_long_enough(header, segment, edition), 6)
     ask(info == segment, 7, segment, info)
     last = hop + 1 == header.hops
-    change = hop + 1 == end and not last
-    ask(info < header.infos, 8, info)
-    ask(not change or segment + 1 < header.infos, 8, segment + 1)
+    change = changes_segment(header, hop, end, edition)
+    ask_info_fields(header, info, segment, change)
+    ask_peering(header, info, edition)
     alert = header.alert(hop, header.ingress_alert_bit(info))
-    if interface != 0 and not header.cons_dir(info):
+    if interface != 0 and not header.cons_dir(info) and steps_at_ingress(header, hop, edition):
         header.take_beta_step(hop, info)
     try:
         table = dict(zip(ids, states))
@@ -250,15 +311,16 @@ def go_in(path, ids, states, interface, time, ignore_macs):
     return f"ContinueEgress {out}", out
 
 
-def go_out(path, ids, states, interface, time, ignore_macs):
+def go_out(path, ids, states, interface, time, ignore_macs, edition=1):
     header = ask_before(path, ids, states)
     hop, info = header.curr_hf, header.curr_inf
     ask(hop < header.hops, 5, hop)
     segment, end = header.segment(hop)
     ask(info == segment, 7, segment, info)
-    ask(info < header.infos, 8, info)
+    ask_info_fields(header, info, segment, False)
+    ask_peering(header, info, edition)
     ask(hop + 1 < header.hops, 5, hop + 1)
-    ask(hop + 1 < end, 18)
+    ask(hop + 1 < end or leaves_segment_end(header, hop, edition), 18)
     out = header.travel_egress(hop, info)
     alert = header.alert(hop, header.egress_alert_bit(info))
     try:
@@ -266,21 +328,23 @@ def go_out(path, ids, states, interface, time, ignore_macs):
         ask_hop(header, hop, info, time, ignore_macs)
     finally:
         # the move, whatever the checks say
-        if header.cons_dir(info):
+        if header.cons_dir(info) and steps_at_egress(header, hop, edition):
             header.take_beta_step(hop, info)
         header.clear_alert(hop, header.egress_alert_bit(info))
         header.curr_hf = hop + 1
+        if moves_info_at_egress(header, hop, edition):
+            header.curr_inf = info + 1
     return f"EgressSCMPHandleRequest {out}" if alert and out != 0 else f"ForwardNextHop {out}"
 
 
-def go_through(path, ids, states, interface, time, ignore_macs):
-    answer, out = go_in(path, ids, states, interface, time, ignore_macs)
+def go_through(path, ids, states, interface, time, ignore_macs, edition=1):
+    answer, out = go_in(path, ids, states, interface, time, ignore_macs, edition)
     if out is None:
         return answer
     header, table = Header(path), dict(zip(ids, states))
     ask(out in table, 15, header.curr_hf, out, header.cons_dir(header.curr_inf))
     ask(table[out] >= 4, 17, header.curr_hf, out)
-    return go_out(path, ids, states, out, time, ignore_macs)
+    return go_out(path, ids, states, out, time, ignore_macs, edition)
 
 
 def scmp(number, *values):

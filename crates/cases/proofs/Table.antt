@@ -34,9 +34,10 @@ use Rattle.validator.specs.declared.answer.AsRoutingAction.the-variants.{Local,
 use Rattle.validator.specs.declared.answer.IngressNextAction.{IngressNextAction}
 use Rattle.validator.specs.declared.answer.StepAnswer.{StepAnswer}
 use Rattle.validator.specs.declared.answer.StepAnswer.the-variants.{Action, Refused}
+use Rattle.edition.specs.declared.Edition.the-variants.{First}
 use Rattle.routing.specs.Outcome.{Outcome}
 use Rattle.routing.specs.Ingress.{stepped, ingressMove, ingressAction, ingress}
-use Rattle.routing.specs.Egress.{egressMove, egressAction, egress}
+use Rattle.routing.specs.Egress.{egressMove, leavingAction, egress}
 use Rattle.routing.specs.Step.{keyMac, atIngress, finished, stepFrom, step}
 
 -- ---- the AS
@@ -54,7 +55,7 @@ states = 6 ∷ 6 ∷ 5 ∷ []
 
 -- its step: path in, answer and path out
 abbrev goes : ℕ → ℕ → Bool → List ℕ → Outcome StepAnswer
-goes interface time unchecked path = step ids states (keyMac key) interface time unchecked path
+goes interface time unchecked path = step First ids states (keyMac key) interface time unchecked path
 
 abbrev outcome : StepAnswer → List ℕ → Outcome StepAnswer
 outcome answer bytes = record { answer = answer; bytes = bytes }
@@ -106,10 +107,10 @@ sound = tableSound ids states
 
 came : ℕ → ℕ → Bool → List ℕ → Outcome IngressNextAction
 unfolding mac ended sound firstNo setSegId clearIngressAlert setCurrHf setCurrInf stepped ingressMove ingressAction ingress
-came interface time unchecked path = ingress ids states (keyMac key) (atIngress interface time unchecked) path
+came interface time unchecked path = ingress First ids states (keyMac key) (atIngress interface time unchecked) path
 
 went : ℕ → ℕ → Bool → List ℕ → Outcome StepAnswer
-unfolding came egressMove egressAction egress finished stepFrom step
+unfolding came egressMove leavingAction egress finished stepFrom step
 went interface time unchecked path = goes interface time unchecked path
 
 -- ---- paths: MACs that are right under the key, each timestamp 1000, each ExpTime 0

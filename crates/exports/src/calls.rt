@@ -3,6 +3,7 @@
 use crate::reply;
 use crate::reply::Reply;
 use aes_cmac::cmac;
+use edition::Edition;
 use journey_check::questions;
 use routing::step;
 use standard_path::mac;
@@ -13,6 +14,7 @@ ghost use Rattle.standard_path.specs.Mac.{hopMac};
 ghost use Rattle.standard_path.specs.Header.{segmentIndex};
 ghost use Rattle.segments.specs.Segments.{expiration};
 ghost use Rattle.reverse.specs.Reverse.{reverseAnswer, reverseBytes};
+ghost use Rattle.edition.specs.declared.Edition.the-variants.{First};
 ghost use Rattle.routing.specs.Ingress.{ingress};
 ghost use Rattle.routing.specs.Egress.{egress};
 ghost use Rattle.routing.specs.Step.{keyMac, atIngress, atEgress, step};
@@ -41,12 +43,13 @@ pub extern "C" fn scion_handle_standard_path(
     as_forwarding_key: &[u8; 16],
     ignore_macs: bool,
 ) -> Reply
-    ensures { λ r. ⌜ r ≡ stepReply (step (now (ids .entry)) (now (states .entry)) (keyMac (now («as_forwarding_key» .entry)))
+    ensures { λ r. ⌜ r ≡ stepReply (step First (now (ids .entry)) (now (states .entry)) (keyMac (now («as_forwarding_key» .entry)))
         «ingress_interface_id» time «ignore_macs» (now (path .entry)) .answer) ⌝ }
-    ensures { λ _. ⌜ now (path .exit) ≡ step (now (ids .entry)) (now (states .entry)) (keyMac (now («as_forwarding_key» .entry)))
+    ensures { λ _. ⌜ now (path .exit) ≡ step First (now (ids .entry)) (now (states .entry)) (keyMac (now («as_forwarding_key» .entry)))
         «ingress_interface_id» time «ignore_macs» (now (path .entry)) .bytes ⌝ }
 {
     let answer = step::handle_standard_path(
+        Edition::First,
         ids,
         states,
         path,
@@ -68,12 +71,13 @@ pub extern "C" fn scion_standard_path_ingress(
     forwarding_key: &[u8; 16],
     ignore_macs: bool,
 ) -> Reply
-    ensures { λ r. ⌜ r ≡ ingressReply (ingress (now (ids .entry)) (now (states .entry)) (keyMac (now («forwarding_key» .entry)))
+    ensures { λ r. ⌜ r ≡ ingressReply (ingress First (now (ids .entry)) (now (states .entry)) (keyMac (now («forwarding_key» .entry)))
         (atIngress «ingress_interface_id» time «ignore_macs») (now (path .entry)) .answer) ⌝ }
-    ensures { λ _. ⌜ now (path .exit) ≡ ingress (now (ids .entry)) (now (states .entry)) (keyMac (now («forwarding_key» .entry)))
+    ensures { λ _. ⌜ now (path .exit) ≡ ingress First (now (ids .entry)) (now (states .entry)) (keyMac (now («forwarding_key» .entry)))
         (atIngress «ingress_interface_id» time «ignore_macs») (now (path .entry)) .bytes ⌝ }
 {
     let answer = step::standard_path_ingress(
+        Edition::First,
         ids,
         states,
         path,
@@ -95,12 +99,13 @@ pub extern "C" fn scion_standard_path_egress(
     forwarding_key: &[u8; 16],
     ignore_macs: bool,
 ) -> Reply
-    ensures { λ r. ⌜ r ≡ stepReply (egress (now (ids .entry)) (now (states .entry)) (keyMac (now («forwarding_key» .entry)))
+    ensures { λ r. ⌜ r ≡ stepReply (egress First (now (ids .entry)) (now (states .entry)) (keyMac (now («forwarding_key» .entry)))
         (atEgress «egress_if_id» time «ignore_macs») (now (path .entry)) .answer) ⌝ }
-    ensures { λ _. ⌜ now (path .exit) ≡ egress (now (ids .entry)) (now (states .entry)) (keyMac (now («forwarding_key» .entry)))
+    ensures { λ _. ⌜ now (path .exit) ≡ egress First (now (ids .entry)) (now (states .entry)) (keyMac (now («forwarding_key» .entry)))
         (atEgress «egress_if_id» time «ignore_macs») (now (path .entry)) .bytes ⌝ }
 {
     let answer = step::standard_path_egress(
+        Edition::First,
         ids,
         states,
         path,
@@ -146,9 +151,15 @@ pub extern "C" fn scion_check_journey(
     earliest: u32,
     latest: u32,
 ) -> Reply
-    ensures { λ r. ⌜ r ≡ journeyReply (journeyCheck narrow (now (itinerary .entry)) earliest latest (now (path .entry))) ⌝ }
+    ensures { λ r. ⌜ r ≡ journeyReply (journeyCheck First narrow (now (itinerary .entry)) earliest latest (now (path .entry))) ⌝ }
 {
-    reply::journey_reply(questions::check_journey(path, itinerary, earliest, latest))
+    reply::journey_reply(questions::check_journey(
+        Edition::First,
+        path,
+        itinerary,
+        earliest,
+        latest,
+    ))
 }
 
 // ---- MACs

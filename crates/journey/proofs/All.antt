@@ -22,3 +22,9 @@ pub all-of : (n : ℕ) (holds : ℕ → Bool) → ((k : ℕ) → k < n → holds
 unfolding all
 all-of zero holds f = refl
 all-of (suc n) holds f = both (all-of n holds (λ k l. f k (omega arith))) (f n (omega arith))
+
+-- two tests that say the same of each number
+pub all-same : (n : ℕ) {one other : ℕ → Bool} → ((k : ℕ) → one k ≡ other k) → all n one ≡ all n other
+unfolding all
+all-same zero same = refl
+all-same (suc n) same = rw (all-same n same, same n)

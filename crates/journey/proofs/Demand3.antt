@@ -4,35 +4,38 @@ use mathlib.Core.Path.{_≡_, refl, sym, _∙_}
 use mathlib.Core.Bool.{Bool, true, false, cond, false≢true}
 use mathlib.Core.List.{List, [], _∷_}
 use mathlib.Core.Logic.{_↔_}
-use Prim.Native.Nat.{ℕ, zero, suc, _+_, _≤_, _<_}
+use Prim.Native.Nat.{ℕ, suc, _+_, _≤_, _<_}
 use native.Mathlib.Omega.{arith}
 use lib.ListN.{length, getD, replicate, length-replicate, getD-replicate}
 use Rattle.octets.proofs.Bools.{first-of}
 use Rattle.standard_path.specs.Mac.{macChainingBeta}
-use Rattle.standard_path.specs.Fields.{seg0Len, consDir, segId}
+use Rattle.standard_path.specs.Fields.{consDir, segId}
 use Rattle.standard_path.specs.Header.{infoField}
 use Rattle.standard_path.proofs.Kept.{kept-self}
 use Rattle.interface_table.specs.Table.{tableSound}
 use Rattle.routing.proofs.Touched.{same-info}
+use Rattle.edition.specs.declared.Edition.{Edition}
 use Rattle.itinerary.specs.Layout.{Layout}
 use Rattle.itinerary.specs.Itinerary.{Station, stations}
 use Rattle.journey.specs.declared.answer.Verdict.the-variants.{Passed, NotPassed}
-use Rattle.journey.specs.Check.{countOf, noStation, chainedSegId, macsFrom, passes}
+use Rattle.journey.specs.Check.{noStation, chainedSegId, macsFrom, passes}
 use Rattle.journey.specs.Journey.{stepAt, goesOn, delivers, journey, endedWell, arrives, Readings, Travels, Demand3}
 use Rattle.journey.specs.Verdict.{questions, journeyCheck}
-use Rattle.journey.proofs.FirstStation.{placed-yes, first-long}
+use Rattle.journey.proofs.FirstStation.{placed-yes, first-placed}
 use Rattle.journey.proofs.Stands.{Stands, arrivingSegId}
+use Rattle.edition.proofs.Peering.{fits-valid, valid-fits}
 use Rattle.journey.proofs.Hops.{Hop}
 use Rattle.journey.proofs.Along.{Along, AllReached, well-along, along-well, well-last, well-more}
 use Rattle.journey.proofs.AtStation.{refused-not-on, refused-not-delivered}
 use Rattle.journey.proofs.Lengths.{Shape, first-of-shape}
 use Rattle.journey.proofs.Facts.{AllFacts, along-facts, facts-along, along-shape}
-use Rattle.journey.proofs.Parts.{passes-shape, check-facts, facts-check}
+use Rattle.journey.proofs.Parts.{shared-first, passes-fits, passes-shape, check-facts, facts-check}
 use Rattle.journey.proofs.LetThrough.{Asked, asked, first-no-none}
 
-module _ {path : List ℕ} {stations : List Station} {earliest latest : ℕ} (a : Asked path stations earliest latest) where
+module _ {edition : Edition} {path : List ℕ} {stations : List Station} {earliest latest : ℕ}
+    (a : Asked edition path stations earliest latest) where
   -- the path stands at its first hop
-  pub starts : Stands path path 0 0 (arrivingSegId path 0 0)
+  pub starts : Stands path path 0 0 (arrivingSegId edition path 0 0)
   unfolding chainedSegId macsFrom macChainingBeta
   starts = record {
     kept = kept-self path;
@@ -47,13 +50,6 @@ module _ {path : List ℕ} {stations : List Station} {earliest latest : ℕ} (a 
       go : (c : Bool) → segId (infoField path 0) ≡ cond c (segId (infoField path 0)) (segId (infoField path 0))
       go true = refl
       go false = refl
-
-  pub first-hop : 2 ≤ seg0Len path → Hop path 0 0
-  first-hop long-first = record { third = omega arith; long = long; within = omega arith }
-    where
-      long : (u : ℕ) → u ≤ 0 → 2 ≤ countOf path u
-      long zero l = long-first
-      long (suc u) l = absurd (omega arith)
 
   -- every station is reached as the check's premises have it
   later-reached : (rest : List Station)
@@ -77,54 +73,55 @@ module _ {path : List ℕ} {stations : List Station} {earliest latest : ℕ} (a 
   pub reached : AllReached 0 stations
   reached = all-reached stations (a .sound) (a .counted .first) (a .counted .later)
 
-  -- ---- a path that arrives has a first segment of two hops or more
+  -- ---- a path that arrives is in order at its first hop
 
-  arrives-long : (all : List Station) (readings : List ℕ) → endedWell (0 + length all) (journey 0 all readings path) ≡ true
-      → 2 ≤ seg0Len path
+  pub arrives-first : (all : List Station) (readings : List ℕ) → endedWell (0 + length all) (journey edition 0 all readings path) ≡ true
+      → Hop edition path 0 0
   unfolding endedWell journey
-  arrives-long [] readings e = absurd (false≢true e)
-  arrives-long (station ∷ rest) [] e = absurd (false≢true e)
-  arrives-long (station ∷ []) (reading ∷ readings) e =
-      first-long path (a .hf) (a .inf)
-      (placed-yes delivers refused-not-delivered station reading path (sym (well-last 0 station reading readings path) ∙ e))
-  arrives-long (station ∷ next ∷ rest) (reading ∷ readings) e =
-      first-long path (a .hf) (a .inf)
-      (placed-yes goesOn refused-not-on station reading path
-      (first-of (goesOn (stepAt station reading path .answer)) _
-      (sym (well-more 0 (0 + length (station ∷ next ∷ rest)) station next rest reading readings path (omega arith)) ∙ e)))
+  arrives-first [] readings e = absurd (false≢true e)
+  arrives-first (station ∷ rest) [] e = absurd (false≢true e)
+  arrives-first (station ∷ []) (reading ∷ readings) e =
+      first-placed edition path (a .hf) (a .inf)
+      (placed-yes edition delivers refused-not-delivered station reading path (sym (well-last edition 0 station reading readings path) ∙ e))
+  arrives-first (station ∷ next ∷ rest) (reading ∷ readings) e =
+      first-placed edition path (a .hf) (a .inf)
+      (placed-yes edition goesOn refused-not-on station reading path
+      (first-of (goesOn (stepAt edition station reading path .answer)) _
+      (sym (well-more edition 0 (0 + length (station ∷ next ∷ rest)) station next rest reading readings path (omega arith)) ∙ e)))
 
   -- ---- what the readings find
 
   abbrev well : List ℕ → Type 0
-  well readings = endedWell (0 + length stations) (journey 0 stations readings path) ≡ true
+  well readings = endedWell (0 + length stations) (journey edition 0 stations readings path) ≡ true
 
-  arrives-well : (readings : List ℕ) → arrives stations readings path ≡ true → well readings
+  arrives-well : (readings : List ℕ) → arrives edition stations readings path ≡ true → well readings
   unfolding arrives
   arrives-well readings e = let q : 0 + length stations ≡ length stations = omega arith in rw q e
 
-  well-arrives : (readings : List ℕ) → well readings → arrives stations readings path ≡ true
+  well-arrives : (readings : List ℕ) → well readings → arrives edition stations readings path ≡ true
   unfolding arrives
   well-arrives readings e = let q : length stations ≡ 0 + length stations = omega arith in rw q e
 
-  found : (readings : List ℕ) → arrives stations readings path ≡ true → Along path 0 0 stations readings
+  found : (readings : List ℕ) → arrives edition stations readings path ≡ true → Along edition path 0 0 stations readings
   found readings e =
       let w = arrives-well readings e in
-      well-along (a .given) stations readings 0 0 0 path starts (first-hop (arrives-long stations readings w)) reached w
+      well-along edition (a .given) stations readings 0 0 0 path starts (arrives-first stations readings w) reached w
 
-  shape-of : (readings : List ℕ) → arrives stations readings path ≡ true → Shape path
+  shape-of : (readings : List ℕ) → arrives edition stations readings path ≡ true → Shape edition path
   shape-of readings e =
-      along-shape 0 0 stations readings (found readings e) (first-hop (arrives-long stations readings (arrives-well readings e)))
+      along-shape 0 0 stations readings (found readings e) (arrives-first stations readings (arrives-well readings e))
 
-  facts : (readings : List ℕ) → arrives stations readings path ≡ true → AllFacts path 0 0 stations readings
+  facts : (readings : List ℕ) → arrives edition stations readings path ≡ true → AllFacts edition path 0 0 stations readings
   facts readings e =
       along-facts (shape-of readings e) 0 0 stations readings (found readings e)
-      (first-hop (arrives-long stations readings (arrives-well readings e))) (λ z. refl)
+      (arrives-first stations readings (arrives-well readings e))
 
   -- two runs decide it: every clock at the earliest reading, and every clock at the latest
-  pub two-runs : arrives stations (replicate (length stations) earliest) path ≡ true
-      → arrives stations (replicate (length stations) latest) path ≡ true → passes stations earliest latest path ≡ true
+  pub two-runs : arrives edition stations (replicate (length stations) earliest) path ≡ true
+      → arrives edition stations (replicate (length stations) latest) path ≡ true → passes edition stations earliest latest path ≡ true
   two-runs early late =
-      facts-check stations earliest latest path (shape-of _ early) (a .counted) (replicate (length stations) earliest)
+      facts-check edition stations earliest latest path (shape-of _ early)
+      (valid-fits edition path (arrives-first stations _ (arrives-well _ early) .fits)) (a .counted) (replicate (length stations) earliest)
       (replicate (length stations) latest)
       (λ k l. rw (getD-replicate (length stations) k earliest 0 l) (omega arith))
       (λ k l. rw (getD-replicate (length stations) k latest 0 l) (omega arith))
@@ -140,36 +137,36 @@ module _ {path : List ℕ} {stations : List Station} {earliest latest : ℕ} (a 
         before = λ k l. rw (getD-replicate n k reading 0 (omega (arith, e))) high;
       }
 
-  passes-travels : passes stations earliest latest path ≡ true → Travels stations earliest latest path
+  passes-travels : passes edition stations earliest latest path ≡ true → Travels edition stations earliest latest path
   unfolding Travels
   passes-travels e readings r =
-      let shape = passes-shape stations earliest latest path e in
-      let first = first-hop (first-of-shape shape) in
+      let shape = passes-shape edition stations earliest latest path e in
+      let first = first-of-shape shape (fits-valid edition path (passes-fits edition stations earliest latest path e)) in
       let each : length readings ≡ length stations = r .each in
-      let all-facts = check-facts stations earliest latest path e (a .counted) readings
+      let all-facts = check-facts edition stations earliest latest path e (a .counted) readings
       (λ k l. r .after k (omega arith)) (λ k l. r .before k (omega arith)) in
       well-arrives readings
-      (along-well (a .given) stations readings 0 0 0 path starts first reached
-      (facts-along shape stations readings 0 0 first (omega (arith, a .counted .many), each) all-facts))
+      (along-well edition (a .given) stations readings 0 0 0 path starts first reached
+      (facts-along shape stations readings 0 0 first (omega (arith, a .counted .many, shared-first edition path), each) all-facts))
 
-  travels-passes : Travels stations earliest latest path → passes stations earliest latest path ≡ true
+  travels-passes : Travels edition stations earliest latest path → passes edition stations earliest latest path ≡ true
   unfolding Travels
   travels-passes t =
       two-runs (t _ (constant earliest (omega arith) (a .ordered))) (t _ (constant latest (a .ordered) (omega arith)))
 
-  pub check-travels : (passes stations earliest latest path ≡ true) ↔ Travels stations earliest latest path
+  pub check-travels : (passes edition stations earliest latest path ≡ true) ↔ Travels edition stations earliest latest path
   check-travels = (passes-travels, travels-passes)
 
 -- ---- the theorem
 
-pub demand-3 : (layout : Layout) (itinerary : List ℕ) (earliest latest : ℕ) (path : List ℕ)
-    → Demand3 layout itinerary earliest latest path (journeyCheck layout itinerary earliest latest path)
+pub demand-3 : (edition : Edition) (layout : Layout) (itinerary : List ℕ) (earliest latest : ℕ) (path : List ℕ)
+    → Demand3 edition layout itinerary earliest latest path (journeyCheck edition layout itinerary earliest latest path)
 unfolding Demand3 journeyCheck
-demand-3 layout itinerary earliest latest path e =
-    let verdict = first-no-none (questions layout itinerary earliest latest path)
-    (cond (passes (stations layout itinerary) earliest latest path) Passed NotPassed) e in
-    let theorem = check-travels (asked layout itinerary earliest latest path e) in (
-      (λ q. theorem .0 (passed-is (passes (stations layout itinerary) earliest latest path) (sym verdict ∙ q))),
+demand-3 edition layout itinerary earliest latest path e =
+    let verdict = first-no-none (questions edition layout itinerary earliest latest path)
+    (cond (passes edition (stations layout itinerary) earliest latest path) Passed NotPassed) e in
+    let theorem = check-travels (asked edition layout itinerary earliest latest path e) in (
+      (λ q. theorem .0 (passed-is (passes edition (stations layout itinerary) earliest latest path) (sym verdict ∙ q))),
       (λ t. verdict ∙ rw (theorem .1 t)),
     )
   where

@@ -1,140 +1,197 @@
 -- The stations of a journey that ends well, hop by hop: where the lengths fit, each hop is good at its station, and the other way.
 -- Assumes nothing.
-use mathlib.Core.Path.{_≡_, refl, subst}
-use mathlib.Core.Bool.{true}
+use mathlib.Core.Path.{_≡_, refl, sym, subst, _∙_}
+use mathlib.Core.Bool.{Bool, true, false, cond, false≢true}
 use mathlib.Core.List.{List, [], _∷_}
 use Prim.Native.Nat.{ℕ, zero, suc, _+_, _≤_, _<_}
 use native.Mathlib.Omega.{arith}
 use lib.ListN.{length, getD}
 use Rattle.standard_path.specs.Header.{infos, hops}
+use Rattle.edition.specs.declared.Edition.{Edition}
+use Rattle.edition.specs.Edition.{peeringPath}
 use Rattle.itinerary.specs.Itinerary.{Station}
-use Rattle.journey.specs.Check.{startOf, countOf, noStation}
-use Rattle.journey.proofs.Hops.{Hop, Kind, middle, last, joint, kind, in-header, start-next, next-in-header, hop-ahead, hop-across}
-use Rattle.journey.proofs.Lengths.{Shape, one, two, three, at-most-three, all-long, station-among, last-segment, Enough}
+use Rattle.journey.specs.Check.{startOf, countOf, shared, noStation}
+use Rattle.journey.proofs.Hops.{Hop, Onward, inner, over, nextSegment, nextPlace, over-before, Kind, middle, last, joint, kind, in-header, start-next, next-in-header, hop-ahead, hop-across}
+use Rattle.journey.proofs.Lengths.{Shape, one, two, three, linked, linked-infos, at-most-three, all-double, station-among, last-segment, spare, Enough}
 use Rattle.journey.proofs.AtStation.{hopGood, linkGood, wayGood}
 use Rattle.journey.proofs.Along.{Along, arrive, ahead, across}
 
 -- ---- two hops at one station: the same, or the two of a joint
 
-data Together (path : List ℕ) (t m t′ m′ : ℕ) : Type 0 where
-  same : t ≡ t′ → m ≡ m′ → Together path t m t′ m′
-  joined : t + 1 ≡ t′ → 0 ≡ m′ → m + 1 ≡ countOf path t → Together path t m t′ m′
+data Together (edition : Edition) (path : List ℕ) (t m t′ m′ : ℕ) : Type 0 where
+  same : t ≡ t′ → m ≡ m′ → Together edition path t m t′ m′
+  joined : peeringPath edition path ≡ false → t + 1 ≡ t′ → 0 ≡ m′ → m + 1 ≡ countOf path t → Together edition path t m t′ m′
 
-together : {path : List ℕ} → ((u : ℕ) → u < infos path → 2 ≤ countOf path u) → (t m t′ m′ : ℕ) → t < 3 → t′ < 3
+together : {edition : Edition} {path : List ℕ} → peeringPath edition path ≡ false → ((u : ℕ) → u < infos path → 2 ≤ countOf path u)
+    → (t m t′ m′ : ℕ) → t < 3 → t′ < 3
     → t < infos path → t′ < infos path → m < countOf path t → m′ < countOf path t′ → (m ≡ 0 → t ≡ 0)
-    → startOf path t + m + t′ ≡ startOf path t′ + m′ + t → Together path t m t′ m′
-together long zero m zero m′ h h′ i i′ w w′ z e = same refl (omega arith)
-together long zero m (suc zero) m′ h h′ i i′ w w′ z e = joined (omega arith) (omega arith) (omega arith)
-together long zero m (suc (suc zero)) m′ h h′ i i′ w w′ z e = absurd (omega (arith, long 1 (omega arith)))
-together long (suc zero) zero t′ m′ h h′ i i′ w w′ z e = absurd (omega (arith, z refl))
-together long (suc zero) (suc m) zero m′ h h′ i i′ w w′ z e = absurd (omega arith)
-together long (suc zero) (suc m) (suc zero) m′ h h′ i i′ w w′ z e = same refl (omega arith)
-together long (suc zero) (suc m) (suc (suc zero)) m′ h h′ i i′ w w′ z e = joined (omega arith) (omega arith) (omega arith)
-together long (suc (suc zero)) zero t′ m′ h h′ i i′ w w′ z e = absurd (omega (arith, z refl))
-together long (suc (suc zero)) (suc m) zero m′ h h′ i i′ w w′ z e = absurd (omega (arith, long 1 (omega arith)))
-together long (suc (suc zero)) (suc m) (suc zero) m′ h h′ i i′ w w′ z e = absurd (omega arith)
-together long (suc (suc zero)) (suc m) (suc (suc zero)) m′ h h′ i i′ w w′ z e = same refl (omega arith)
-together long (suc (suc (suc t))) m t′ m′ h h′ i i′ w w′ z e = absurd (omega arith)
-together long zero m (suc (suc (suc t′))) m′ h h′ i i′ w w′ z e = absurd (omega arith)
-together long (suc zero) (suc m) (suc (suc (suc t′))) m′ h h′ i i′ w w′ z e = absurd (omega arith)
-together long (suc (suc zero)) (suc m) (suc (suc (suc t′))) m′ h h′ i i′ w w′ z e = absurd (omega arith)
+    → startOf path t + m + t′ ≡ startOf path t′ + m′ + t → Together edition path t m t′ m′
+together plain long zero m zero m′ h h′ i i′ w w′ z e = same refl (omega arith)
+together plain long zero m (suc zero) m′ h h′ i i′ w w′ z e = joined plain (omega arith) (omega arith) (omega arith)
+together plain long zero m (suc (suc zero)) m′ h h′ i i′ w w′ z e = absurd (omega (arith, long 1 (omega arith)))
+together plain long (suc zero) zero t′ m′ h h′ i i′ w w′ z e = absurd (omega (arith, z refl))
+together plain long (suc zero) (suc m) zero m′ h h′ i i′ w w′ z e = absurd (omega arith)
+together plain long (suc zero) (suc m) (suc zero) m′ h h′ i i′ w w′ z e = same refl (omega arith)
+together plain long (suc zero) (suc m) (suc (suc zero)) m′ h h′ i i′ w w′ z e = joined plain (omega arith) (omega arith) (omega arith)
+together plain long (suc (suc zero)) zero t′ m′ h h′ i i′ w w′ z e = absurd (omega (arith, z refl))
+together plain long (suc (suc zero)) (suc m) zero m′ h h′ i i′ w w′ z e = absurd (omega (arith, long 1 (omega arith)))
+together plain long (suc (suc zero)) (suc m) (suc zero) m′ h h′ i i′ w w′ z e = absurd (omega arith)
+together plain long (suc (suc zero)) (suc m) (suc (suc zero)) m′ h h′ i i′ w w′ z e = same refl (omega arith)
+together plain long (suc (suc (suc t))) m t′ m′ h h′ i i′ w w′ z e = absurd (omega arith)
+together plain long zero m (suc (suc (suc t′))) m′ h h′ i i′ w w′ z e = absurd (omega arith)
+together plain long (suc zero) (suc m) (suc (suc (suc t′))) m′ h h′ i i′ w w′ z e = absurd (omega arith)
+together plain long (suc (suc zero)) (suc m) (suc (suc (suc t′))) m′ h h′ i i′ w w′ z e = absurd (omega arith)
+
+-- on a peering path only the same
+apart : {edition : Edition} {path : List ℕ} (t m t′ m′ : ℕ) → t < 2 → t′ < 2 → m < countOf path t → m′ < countOf path t′
+    → startOf path t + m ≡ startOf path t′ + m′ → Together edition path t m t′ m′
+apart zero m zero m′ h h′ w w′ e = same refl (omega arith)
+apart zero m (suc zero) m′ h h′ w w′ e = absurd (omega arith)
+apart (suc zero) m zero m′ h h′ w w′ e = absurd (omega arith)
+apart (suc zero) m (suc zero) m′ h h′ w w′ e = same refl (omega arith)
+apart (suc (suc t)) m t′ m′ h h′ w w′ e = absurd (omega arith)
+apart zero m (suc (suc t′)) m′ h h′ w w′ e = absurd (omega arith)
+apart (suc zero) m (suc (suc t′)) m′ h h′ w w′ e = absurd (omega arith)
 
 -- ---- what a hop's station finds
 
-pub record HopFacts (path : List ℕ) (station : Station) (reading t m : ℕ) : Type 0 where
-  pub good : hopGood path station reading t m ≡ true
-  pub way : m + 1 < countOf path t → wayGood path station t m ≡ true
-  pub link : m + 1 ≡ countOf path t → t + 1 < infos path → linkGood path station t m ≡ true
+pub record HopFacts (edition : Edition) (path : List ℕ) (station : Station) (reading t m : ℕ) : Type 0 where
+  pub good : hopGood edition path station reading t m ≡ true
+  pub way : Onward edition path t m → wayGood path station t m ≡ true
+  pub link : peeringPath edition path ≡ false → m + 1 ≡ countOf path t → t + 1 < infos path → linkGood path station t m ≡ true
 
 -- of all hops behind a place, by their stations; hop m′ of segment t′ is the matter of the i-th station from there
-abbrev pub AllFacts : List ℕ → ℕ → ℕ → List Station → List ℕ → Type 0
-AllFacts path t m stations readings =
-    (i t′ m′ : ℕ) → i < length stations → t′ < infos path → m′ < countOf path t′ → i + (startOf path t + m) + t′ ≡ startOf path t′ + m′ + t
-    → HopFacts path (getD stations i noStation) (getD readings i 0) t′ m′
+abbrev pub AllFacts : Edition → List ℕ → ℕ → ℕ → List Station → List ℕ → Type 0
+AllFacts edition path t m stations readings =
+    (i t′ m′ : ℕ) → i < length stations → t′ < infos path → m′ < countOf path t′
+    → i + (startOf path t + m) + shared edition path t′ ≡ startOf path t′ + m′ + shared edition path t
+    → HopFacts edition path (getD stations i noStation) (getD readings i 0) t′ m′
 
-facts-at : {path : List ℕ} {station : Station} {reading t m t′ m′ : ℕ} → t ≡ t′ → m ≡ m′ → HopFacts path station reading t m
-    → HopFacts path station reading t′ m′
-facts-at {path} {station} {reading} {t} {m} {t′} {m′} e f facts =
-    subst (λ (n : ℕ). HopFacts path station reading t′ n) f (subst (λ (u : ℕ). HopFacts path station reading u m) e facts)
+facts-at : {edition : Edition} {path : List ℕ} {station : Station} {reading t m t′ m′ : ℕ} → t ≡ t′ → m ≡ m′
+    → HopFacts edition path station reading t m → HopFacts edition path station reading t′ m′
+facts-at {edition} {path} {station} {reading} {t} {m} {t′} {m′} e f facts =
+    subst (λ (n : ℕ). HopFacts edition path station reading t′ n) f (subst (λ (u : ℕ). HopFacts edition path station reading u m) e facts)
 
-module _ {path : List ℕ} (shape : Shape path) where
-  both-at : (t m t′ m′ : ℕ) → Hop path t m → t′ < infos path → m′ < countOf path t′ → (m ≡ 0 → t ≡ 0)
-      → 0 + (startOf path t + m) + t′ ≡ startOf path t′ + m′ + t → Together path t m t′ m′
-  both-at t m t′ m′ h i′ w′ z e =
-      together (all-long shape) t m t′ m′ (h .third) (at-most-three path t′ i′) (in-header path t (h .third) (h .long)) i′ (h .within) w′ z
-      (omega arith)
+-- ---- the next hop's station is the next
 
-  pub along-facts : (t m : ℕ) (stations : List Station) (readings : List ℕ) → Along path t m stations readings → Hop path t m
-      → (m ≡ 0 → t ≡ 0) → AllFacts path t m stations readings
-  along-facts t m (station ∷ []) (reading ∷ readings) (arrive a b good) h z zero t′ m′ l i′ w′ e =
-      go (both-at t m t′ m′ h i′ w′ z e)
+pub shared-plain : (edition : Edition) (path : List ℕ) → peeringPath edition path ≡ false → (t : ℕ) → shared edition path t ≡ t
+shared-plain edition path p t = rw p
+
+pub shared-linked : (edition : Edition) (path : List ℕ) → peeringPath edition path ≡ true → (t : ℕ) → shared edition path t ≡ 0
+shared-linked edition path p t = rw p
+
+pub next-index : {edition : Edition} {path : List ℕ} {t m : ℕ} (o : Onward edition path t m)
+    → startOf path (nextSegment o) + nextPlace o + shared edition path t ≡ startOf path t + m + 1 + shared edition path (nextSegment o)
+next-index (inner e) = omega arith
+next-index {edition} {path} {t} (over p z e) =
+    omega (arith, start-next path t (omega arith), shared-linked edition path p t, shared-linked edition path p (t + 1))
+
+-- a segment's last hop goes on over the peering link only
+not-plain : {edition : Edition} {path : List ℕ} {t m : ℕ} → Onward edition path t m → peeringPath edition path ≡ false → m + 1 ≡ countOf path t → ⊥
+not-plain (inner e) q j = omega arith
+not-plain (over p z e) q j = false≢true (sym q ∙ p)
+
+not-last : {edition : Edition} {path : List ℕ} {t m : ℕ} → Onward edition path t m → m + 1 ≡ countOf path t
+    → startOf path t + m + 1 ≡ hops path → ⊥
+not-last (inner e) a b = omega arith
+not-last {edition} {path} {t} (over p z e) a b = omega (arith, over-before edition path t p z)
+
+module _ {edition : Edition} {path : List ℕ} (shape : Shape edition path) where
+  both-at : (t m t′ m′ : ℕ) → Hop edition path t m → t′ < infos path → m′ < countOf path t′
+      → 0 + (startOf path t + m) + shared edition path t′ ≡ startOf path t′ + m′ + shared edition path t → Together edition path t m t′ m′
+  both-at t m t′ m′ h i′ w′ e = go (peeringPath edition path) refl e
+    where
+      go : (peer : Bool) → peeringPath edition path ≡ peer
+          → 0 + (startOf path t + m) + cond peer 0 t′ ≡ startOf path t′ + m′ + cond peer 0 t → Together edition path t m t′ m′
+      go true p q =
+          let n = linked-infos edition path p in
+          apart t m t′ m′ (omega (arith, in-header path t (h .third) (h .long))) (omega arith) (h .within) w′ (omega arith)
+      go false p q =
+          together p (all-double shape p) t m t′ m′ (h .third) (at-most-three path t′ i′) (in-header path t (h .third) (h .long)) i′
+          (h .within) w′ (h .back (rw p)) (omega arith)
+
+  pub along-facts : (t m : ℕ) (stations : List Station) (readings : List ℕ) → Along edition path t m stations readings → Hop edition path t m
+      → AllFacts edition path t m stations readings
+  along-facts t m (station ∷ []) (reading ∷ readings) (arrive a b good) h zero t′ m′ l i′ w′ e =
+      go (both-at t m t′ m′ h i′ w′ e)
     where
       ending : t + 1 ≡ infos path
       ending = last-segment shape t (in-header path t (h .third) (h .long)) (omega arith)
 
-      go : Together path t m t′ m′ → HopFacts path station reading t′ m′
+      go : Together edition path t m t′ m′ → HopFacts edition path station reading t′ m′
       go (same p q) =
-          facts-at p q (record { good = good; way = λ k. absurd (omega arith); link = λ j k. absurd (omega (arith, ending)) })
-      go (joined p q j) = absurd (omega (arith, ending))
-  along-facts t m (station ∷ []) (reading ∷ readings) (arrive a b good) h z (suc i) t′ m′ l i′ w′ e = absurd (omega arith)
-  along-facts t m (station ∷ stations) (reading ∷ readings) (ahead more good way rest) h z zero t′ m′ l i′ w′ e =
-      go (both-at t m t′ m′ h i′ w′ z e)
+          facts-at p q (record { good = good; way = λ o. absurd (not-last o a b); link = λ c j k. absurd (omega (arith, ending)) })
+      go (joined c p q j) = absurd (omega (arith, ending))
+  along-facts t m (station ∷ []) (reading ∷ readings) (arrive a b good) h (suc i) t′ m′ l i′ w′ e = absurd (omega arith)
+  along-facts t m (station ∷ stations) (reading ∷ readings) (ahead more good way rest) h zero t′ m′ l i′ w′ e =
+      go (both-at t m t′ m′ h i′ w′ e)
     where
-      go : Together path t m t′ m′ → HopFacts path station reading t′ m′
-      go (same p q) = facts-at p q (record { good = good; way = λ k. way; link = λ j k. absurd (omega arith) })
-      go (joined p q j) = absurd (omega arith)
-  along-facts t m (station ∷ stations) (reading ∷ readings) (ahead more good way rest) h z (suc i) t′ m′ l i′ w′ e =
-      along-facts t (m + 1) stations readings rest (hop-ahead h more)
-      (λ (k : m + 1 ≡ 0). absurd (omega arith)) i t′ m′ (omega arith) i′ w′ (omega arith)
-  along-facts t m (station ∷ stations) (reading ∷ readings) (across a b good link next way two′ rest) h z zero t′ m′ l i′ w′ e =
-      go (both-at t m t′ m′ h i′ w′ z e)
+      go : Together edition path t m t′ m′ → HopFacts edition path station reading t′ m′
+      go (same p q) = facts-at p q (record { good = good; way = λ o. way; link = λ c j k. absurd (not-plain more c j) })
+      go (joined c p q j) = absurd (not-plain more c j)
+  along-facts t m (station ∷ stations) (reading ∷ readings) (ahead more good way rest) h (suc i) t′ m′ l i′ w′ e =
+      along-facts (nextSegment more) (nextPlace more) stations readings rest (hop-ahead h more) i t′ m′ (omega arith) i′ w′
+      (omega (arith, next-index more))
+  along-facts t m (station ∷ stations) (reading ∷ readings) (across plain a b good link next way two′ rest) h zero t′ m′ l i′ w′ e =
+      go (both-at t m t′ m′ h i′ w′ e)
     where
-      go : Together path t m t′ m′ → HopFacts path station reading t′ m′
-      go (same p q) = facts-at p q (record { good = good; way = λ k. absurd (omega arith); link = λ j k. link })
-      go (joined p q j) = facts-at p q (record { good = next; way = λ k. way; link = λ j k. absurd (omega arith) })
-  along-facts t m (station ∷ stations) (reading ∷ readings) (across a b good link next way two′ rest) h z (suc i) t′ m′ l i′ w′ e =
+      go : Together edition path t m t′ m′ → HopFacts edition path station reading t′ m′
+      go (same p q) = facts-at p q (record { good = good; way = λ o. absurd (not-plain o plain a); link = λ c j k. link })
+      go (joined c p q j) = facts-at p q (record { good = next; way = λ o. way; link = λ c j k. absurd (omega arith) })
+  along-facts t m (station ∷ stations) (reading ∷ readings) (across plain a b good link next way two′ rest) h (suc i) t′ m′ l i′ w′ e =
       let n = next-in-header path t (h .third) (h .long) (omega arith) in
       let at = start-next path t (n .0) in
-      along-facts (t + 1) 1 stations readings rest (hop-across h a b two′)
-      (λ (k : 1 ≡ 0). absurd (omega arith)) i t′ m′ (omega arith) i′ w′ (omega arith)
+      let here = shared-plain edition path plain t in
+      let there = shared-plain edition path plain (t + 1) in
+      along-facts (t + 1) 1 stations readings rest (hop-across h a b two′) i t′ m′ (omega arith) i′ w′ (omega arith)
 
   -- ---- the other way
 
-  abbrev Onward : List Station → List ℕ → Type 0
-  Onward stations readings =
-      (t m : ℕ) → Hop path t m → Enough path t m stations readings → AllFacts path t m stations readings → Along path t m stations readings
+  abbrev Onwards : List Station → List ℕ → Type 0
+  Onwards stations readings =
+      (t m : ℕ) → Hop edition path t m → Enough edition path t m stations readings → AllFacts edition path t m stations readings
+      → Along edition path t m stations readings
 
-  one-on : (station : Station) (stations : List Station) (reading : ℕ) (readings : List ℕ) → Onward stations readings
-      → Onward (station ∷ stations) (reading ∷ readings)
-  one-on station stations reading readings ih t m h left facts = go (kind path t m h)
+  one-on : (station : Station) (stations : List Station) (reading : ℕ) (readings : List ℕ) → Onwards stations readings
+      → Onwards (station ∷ stations) (reading ∷ readings)
+  one-on station stations reading readings ih t m h left facts = go (kind edition path t m h)
     where
       inside : t < infos path
       inside = in-header path t (h .third) (h .long)
 
-      here : HopFacts path station reading t m
+      here : HopFacts edition path station reading t m
       here = facts 0 t m (omega arith) inside (h .within) (omega arith)
 
-      ended : (stations : List Station) → length (station ∷ stations) + (startOf path t + m) + infos path ≡ hops path + 1 + t
-          → m + 1 ≡ countOf path t → startOf path t + m + 1 ≡ hops path → Along path t m (station ∷ stations) (reading ∷ readings)
-      ended [] l a b = arrive a b (here .good)
-      ended (next ∷ stations) l a b = absurd (omega (arith, last-segment shape t inside (omega arith)))
+      done : (peer : Bool) → t + 1 ≡ infos path → cond peer 1 (infos path) ≡ 1 + cond peer 0 t
+      done true e = refl
+      done false e = omega arith
 
-      go : Kind path t m → Along path t m (station ∷ stations) (reading ∷ readings)
+      ended : (stations : List Station)
+          → length (station ∷ stations) + (startOf path t + m) + spare edition path ≡ hops path + 1 + shared edition path t
+          → m + 1 ≡ countOf path t → startOf path t + m + 1 ≡ hops path → Along edition path t m (station ∷ stations) (reading ∷ readings)
+      ended [] l a b = arrive a b (here .good)
+      ended (next ∷ stations) l a b =
+          absurd (omega (arith, done (peeringPath edition path) (last-segment shape t inside (omega arith))))
+
+      go : Kind edition path t m → Along edition path t m (station ∷ stations) (reading ∷ readings)
       go (middle more) =
+          let index = next-index more in
           ahead more (here .good) (here .way more)
-          (ih t (m + 1) (hop-ahead h more) (omega (arith, left .0), omega (arith, left .1))
-          (λ i t′ m′ l i′ w′ e. facts (suc i) t′ m′ (omega arith) i′ w′ (omega arith)))
+          (ih (nextSegment more) (nextPlace more) (hop-ahead h more) (omega (arith, left .0, index), omega (arith, left .1))
+          (λ i t′ m′ l i′ w′ e. facts (suc i) t′ m′ (omega arith) i′ w′ (omega (arith, index))))
       go (last a b) = ended stations (left .0) a b
-      go (joint a b) =
+      go (joint plain a b) =
           let n = next-in-header path t (h .third) (h .long) (omega arith) in
           let at = start-next path t (n .0) in
-          let long = all-long shape (t + 1) (n .1) in
+          let long = all-double shape plain (t + 1) (n .1) in
+          let these = shared-plain edition path plain t in
+          let those = shared-plain edition path plain (t + 1) in
           let then = facts 0 (t + 1) 0 (omega arith) (n .1) (omega arith) (omega arith) in
-          across a b (here .good) (here .link a (n .1)) (then .good) (then .way (omega arith)) long
+          across plain a b (here .good) (here .link plain a (n .1)) (then .good) (then .way (inner (omega arith))) long
           (ih (t + 1) 1 (hop-across h a b long) (omega (arith, left .0), omega (arith, left .1))
           (λ i t′ m′ l i′ w′ e. facts (suc i) t′ m′ (omega arith) i′ w′ (omega arith)))
 
-  pub facts-along : (stations : List Station) (readings : List ℕ) → Onward stations readings
+  pub facts-along : (stations : List Station) (readings : List ℕ) → Onwards stations readings
   facts-along [] readings t m h left facts =
       absurd (omega (arith, left .0, station-among shape t m (in-header path t (h .third) (h .long)) (h .within)))
   facts-along (station ∷ stations) [] t m h left facts = absurd (omega (arith, left .1))
@@ -143,17 +200,23 @@ module _ {path : List ℕ} (shape : Shape path) where
 
 -- ---- a path that arrives has lengths that fit
 
-pub along-shape : {path : List ℕ} (t m : ℕ) (stations : List Station) (readings : List ℕ) → Along path t m stations readings
-    → Hop path t m → Shape path
+pub along-shape : {edition : Edition} {path : List ℕ} (t m : ℕ) (stations : List Station) (readings : List ℕ)
+    → Along edition path t m stations readings → Hop edition path t m → Shape edition path
 unfolding hops
-along-shape {path} t m (station ∷ []) (reading ∷ readings) (arrive a b good) h = go t (h .third) (h .long) (omega arith)
+along-shape {edition} {path} t m (station ∷ []) (reading ∷ readings) (arrive a b good) h = peer (peeringPath edition path) refl
   where
-    go : (t : ℕ) → t < 3 → ((u : ℕ) → u ≤ t → 2 ≤ countOf path u) → startOf path t + countOf path t ≡ hops path → Shape path
-    go zero k long e = one (long 0 (omega arith)) (omega arith) (omega arith)
-    go (suc zero) k long e = two (long 0 (omega arith)) (long 1 (omega arith)) (omega arith)
-    go (suc (suc zero)) k long e = three (long 0 (omega arith)) (long 1 (omega arith)) (long 2 (omega arith))
-    go (suc (suc (suc t))) k long e = absurd (omega arith)
+    go : peeringPath edition path ≡ false → (t : ℕ) → t < 3 → ((u : ℕ) → u ≤ t → 2 ≤ countOf path u)
+        → startOf path t + countOf path t ≡ hops path
+        → Shape edition path
+    go p zero k long e = one (long 0 (omega arith)) (omega arith) (omega arith)
+    go p (suc zero) k long e = two p (long 0 (omega arith)) (long 1 (omega arith)) (omega arith)
+    go p (suc (suc zero)) k long e = three (long 0 (omega arith)) (long 1 (omega arith)) (long 2 (omega arith))
+    go p (suc (suc (suc t))) k long e = absurd (omega arith)
+
+    peer : (b : Bool) → peeringPath edition path ≡ b → Shape edition path
+    peer true p = linked p
+    peer false p = go p t (h .third) (h .double p) (omega arith)
 along-shape t m (station ∷ stations) (reading ∷ readings) (ahead more good way rest) h =
-    along-shape t (m + 1) stations readings rest (hop-ahead h more)
-along-shape {path} t m (station ∷ stations) (reading ∷ readings) (across a b good link next way two′ rest) h =
+    along-shape (nextSegment more) (nextPlace more) stations readings rest (hop-ahead h more)
+along-shape {path = path} t m (station ∷ stations) (reading ∷ readings) (across plain a b good link next way two′ rest) h =
     along-shape (t + 1) 1 stations readings rest (hop-across h a b two′)

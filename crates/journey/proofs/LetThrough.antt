@@ -1,9 +1,9 @@
 -- What questions 2 to 4 and 23 to 25 let through.
 -- Assumes nothing.
 use mathlib.Core.Path.{_≡_, refl}
-use mathlib.Core.Bool.{true, not, _&&_}
+use mathlib.Core.Bool.{Bool, true, false, cond, not, _&&_}
 use mathlib.Core.List.{List, [], _∷_}
-use Prim.Native.Nat.{ℕ, zero, suc, _≤_, _<_}
+use Prim.Native.Nat.{ℕ, zero, suc, _+_, _-_, _≤_, _<_}
 use native.Mathlib.Omega.{arith}
 use borrow.Author.Tests.{eqb-true, eqb-false, leb-true, not-true}
 use lib.Dec.{eqb, leb}
@@ -12,6 +12,8 @@ use Rattle.octets.proofs.Bools.{each-of-4, first-of, second-of}
 use Rattle.standard_path.specs.Fields.{currInf, currHf, consIngressAlert, consEgressAlert}
 use Rattle.standard_path.specs.Header.{infos, hops, headerSize, hopField}
 use Rattle.interface_table.specs.Table.{tableSound}
+use Rattle.edition.specs.declared.Edition.{Edition}
+use Rattle.edition.specs.Edition.{peeringPath}
 use Rattle.itinerary.specs.Layout.{Layout}
 use Rattle.itinerary.specs.Itinerary.{Station, stations, itinerarySound, arrivalsFit, tablesSound, itineraryFits, fitsWithin}
 use Rattle.itinerary.proofs.Every.{every-at}
@@ -23,9 +25,9 @@ use Rattle.journey.proofs.Steps.{Given}
 use Rattle.journey.proofs.All.{all-at}
 use Rattle.journey.proofs.Parts.{Counted}
 
-pub record Asked (path : List ℕ) (stations : List Station) (earliest latest : ℕ) : Type 0 where
+pub record Asked (edition : Edition) (path : List ℕ) (stations : List Station) (earliest latest : ℕ) : Type 0 where
   pub given : Given path
-  pub counted : Counted path stations
+  pub counted : Counted edition path stations
   pub sound : (k : ℕ) → k < length stations → tableSound (getD stations k noStation .ids) (getD stations k noStation .states) ≡ true
   pub ordered : earliest ≤ latest
   pub hf : currHf path ≡ 0
@@ -49,8 +51,8 @@ pub infos-few : (path : List ℕ) → infos path ≤ hops path
 unfolding infos hops
 infos-few path = omega arith
 
-module _ (layout : Layout) (itinerary : List ℕ) (earliest latest : ℕ) (path : List ℕ)
-    (e : letThrough (questions layout itinerary earliest latest path) ≡ true) where
+module _ (edition : Edition) (layout : Layout) (itinerary : List ℕ) (earliest latest : ℕ) (path : List ℕ)
+    (e : letThrough (questions edition layout itinerary earliest latest path) ≡ true) where
   abbrev all-stations : List Station
   all-stations = stations layout itinerary
 
@@ -63,19 +65,24 @@ module _ (layout : Layout) (itinerary : List ℕ) (earliest latest : ℕ) (path 
         out = not-true _ (second-of (not (consIngressAlert (hopField path j))) _ here);
       }
 
-  pub asked : Asked path all-stations earliest latest
+  counts : (peer : Bool) → length all-stations ≡ cond peer (hops path) (hops path - infos path + 1)
+      → length all-stations + cond peer 1 (infos path) ≡ hops path + 1
+  counts true many = omega arith
+  counts false many = omega (arith, infos-few path)
+
+  pub asked : Asked edition path all-stations earliest latest
   unfolding letThrough fitsWithin tablesSound
   asked =
       let from-3 = second-of (leb 4 (length path)) _ e in
       let from-4 = second-of (leb (headerSize path) (length path)) _ from-3 in
       let from-23 = second-of (leb (hops path) 64) _ from-4 in
-      let from-24 = second-of (itineraryFits layout itinerary (stationCount path) && leb earliest latest) _ from-23 in
+      let from-24 = second-of (itineraryFits layout itinerary (stationCount edition path) && leb earliest latest) _ from-23 in
       let from-25 = second-of (eqb (currHf path) 0 && eqb (currInf path) 0) _ from-24 in
-      let plan = first-of (itineraryFits layout itinerary (stationCount path) && leb earliest latest) _ from-23 in
+      let plan = first-of (itineraryFits layout itinerary (stationCount edition path) && leb earliest latest) _ from-23 in
       let place = first-of (eqb (currHf path) 0 && eqb (currInf path) 0) _ from-24 in
-      let held = each-of-4 (itinerarySound layout itinerary) (eqb (length all-stations) (stationCount path)) (arrivalsFit all-stations)
-      (tablesSound all-stations) (first-of (itineraryFits layout itinerary (stationCount path)) _ plan) in
-      let many : length all-stations ≡ stationCount path = eqb-true _ _ (held .1) in
+      let held = each-of-4 (itinerarySound layout itinerary) (eqb (length all-stations) (stationCount edition path)) (arrivalsFit all-stations)
+      (tablesSound all-stations) (first-of (itineraryFits layout itinerary (stationCount edition path)) _ plan) in
+      let many : length all-stations ≡ stationCount edition path = eqb-true _ _ (held .1) in
       record {
         given = record {
           room = leb-true _ _ (first-of (leb (headerSize path) (length path)) _ from-3);
@@ -83,12 +90,12 @@ module _ (layout : Layout) (itinerary : List ℕ) (earliest latest : ℕ) (path 
           quiet = quiet-at (first-of (quiet path) true from-25);
         };
         counted = record {
-          many = omega (arith, many, infos-few path);
+          many = counts (peeringPath edition path) many;
           first = first-arrival all-stations (held .2);
           later = later-arrivals all-stations (held .2);
         };
         sound = every-at (λ station. tableSound (station .ids) (station .states)) all-stations noStation (held .3);
-        ordered = leb-true _ _ (second-of (itineraryFits layout itinerary (stationCount path)) _ plan);
+        ordered = leb-true _ _ (second-of (itineraryFits layout itinerary (stationCount edition path)) _ plan);
         hf = eqb-true _ _ (first-of (eqb (currHf path) 0) _ place);
         inf = eqb-true _ _ (second-of (eqb (currHf path) 0) _ place);
       }

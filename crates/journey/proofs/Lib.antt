@@ -1,11 +1,11 @@
 pub mod Quiet
 pub mod Stands
-pub mod Hops
 pub mod Yes
+pub mod All
+pub mod Hops
 pub mod Steps
 pub mod AtStation
 pub mod Along
-pub mod All
 pub mod Lengths
 pub mod Facts
 pub mod Parts
@@ -15,3 +15,4 @@ pub mod Demand3
 pub mod Readings
 pub mod Stops
 pub mod Consequences
+pub mod Editions

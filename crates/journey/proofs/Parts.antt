@@ -1,7 +1,7 @@
 -- The check by parts, and the facts of each hop: the check passes exactly if each hop is good at every reading from earliest to latest.
 -- Assumes nothing.
-use mathlib.Core.Path.{_≡_, refl, subst, _∙_}
-use mathlib.Core.Bool.{Bool, true, _&&_, _||_, or-assoc}
+use mathlib.Core.Path.{_≡_, refl, sym, subst, _∙_}
+use mathlib.Core.Bool.{Bool, true, false, cond, _&&_, _||_, or-assoc, false≢true}
 use mathlib.Core.List.{List}
 use Prim.Native.Nat.{ℕ, zero, suc, _+_, _-_, _≤_, _<_}
 use native.Mathlib.Omega.{arith}
@@ -10,21 +10,23 @@ use borrow.Author.Tests.{eqb-false, eq-eqb, ne-eqb, le-leb, lt-leb, leb-true, le
 use lib.Dec.{eqb, leb}
 use lib.ListN.{length, getD}
 use Rattle.octets.proofs.Bools.{both, each-of-3, each-of-4, first-of, second-of, either, other-of}
-use Rattle.standard_path.specs.Fields.{seg0Len, seg1Len, seg2Len, consDir, timestamp, expTime, travelIngress, travelEgress, expiry}
+use Rattle.standard_path.specs.Fields.{consDir, timestamp, expTime, travelIngress, travelEgress, expiry}
 use Rattle.standard_path.specs.Header.{infos, hops, infoField}
 use Rattle.interface_table.specs.Table.{stateOf, pairAllowed}
 use Rattle.interface_table.specs.declared.Listed.{Listed}
 use Rattle.interface_table.specs.declared.Listed.the-variants.{State, Nothing}
 use Rattle.validator.specs.Check.{isListed, linkOf}
 use Rattle.routing.specs.Step.{isUpListed}
+use Rattle.edition.specs.declared.Edition.{Edition}
+use Rattle.edition.specs.Edition.{peeringPath, peeringFits}
 use Rattle.itinerary.specs.Itinerary.{Station}
-use Rattle.journey.specs.Check.{all, lengthsFit, macFits, arrivesBy, leavesBy, hopFits, segmentFits, jointFits, startOf, countOf, hopOf, noStation, stationOf, segmentPasses, jointPasses, passes}
+use Rattle.journey.specs.Check.{all, lengthsPass, macFits, arrivesBy, leavesBy, hopFits, segmentFits, linkFits, jointFits, peeringHopOf, shared, startOf, countOf, hopOf, noStation, stationOf, segmentPasses, jointPasses, passes}
 use Rattle.journey.proofs.Yes.{yes}
 use Rattle.journey.proofs.All.{all-at, all-of}
-use Rattle.journey.proofs.Hops.{start-next}
+use Rattle.journey.proofs.Hops.{Onward, inner, over, start-next}
 use Rattle.journey.proofs.AtStation.{linkGood}
-use Rattle.journey.proofs.Lengths.{Shape, at-most-three, all-long, station-among, start-enough, fit-shape, shape-fit}
-use Rattle.journey.proofs.Facts.{HopFacts, AllFacts}
+use Rattle.journey.proofs.Lengths.{Shape, linked-infos, spare, at-most-three, all-long, all-double, station-among, start-enough, fit-shape, shape-fit}
+use Rattle.journey.proofs.Facts.{HopFacts, AllFacts, shared-plain, shared-linked}
 
 -- ---- what is read of a station that 9 lets in
 
@@ -54,71 +56,102 @@ leaves-listed : (station : Station) (info hop : List ℕ) → leavesBy station i
 unfolding leavesBy
 leaves-listed station info hop e = up-listed (stateOf (station .ids) (station .states) (travelEgress (consDir info) hop)) e
 
+-- one of two tests, by a third
+chosen : (b x y : Bool) → b ≡ true → cond b x y ≡ true → x ≡ true
+chosen true x y p e = e
+chosen false x y p e = absurd (false≢true p)
+
+other : (b x y : Bool) → b ≡ false → cond b x y ≡ true → y ≡ true
+other false x y p e = e
+other true x y p e = absurd (false≢true (sym p))
+
+choose : (b x y : Bool) → b ≡ true → x ≡ true → cond b x y ≡ true
+choose true x y p e = e
+choose false x y p e = absurd (false≢true p)
+
+choose-other : (b x y : Bool) → b ≡ false → y ≡ true → cond b x y ≡ true
+choose-other false x y p e = e
+choose-other true x y p e = absurd (false≢true (sym p))
+
+-- the first segment shares no station
+pub shared-first : (edition : Edition) (path : List ℕ) → shared edition path 0 ≡ 0
+shared-first edition path = go (peeringPath edition path)
+  where
+    go : (peer : Bool) → cond {A = ℕ} peer 0 0 ≡ 0
+    go true = refl
+    go false = refl
+
 -- the stations of a call that 23 lets through: as many as it counts, the first reached from local hosts, the others not
-pub record Counted (path : List ℕ) (stations : List Station) : Type 0 where
-  pub many : length stations + infos path ≡ hops path + 1
+pub record Counted (edition : Edition) (path : List ℕ) (stations : List Station) : Type 0 where
+  pub many : length stations + spare edition path ≡ hops path + 1
   pub first : getD stations 0 noStation .arrival ≡ 0
   pub later : (k : ℕ) → 1 ≤ k → k < length stations → getD stations k noStation .arrival ≡ 0 → ⊥
 
 -- the number of the station of hop m of segment t
-abbrev stationIndex : List ℕ → ℕ → ℕ → ℕ
-stationIndex path t m = startOf path t - t + m
+abbrev stationIndex : Edition → List ℕ → ℕ → ℕ → ℕ
+stationIndex edition path t m = startOf path t - shared edition path t + m
 
-module _ {path : List ℕ} {stations : List Station} (shape : Shape path) (counted : Counted path stations) where
-  index-among : (t m : ℕ) → t < infos path → m < countOf path t → stationIndex path t m < length stations
+module _ {edition : Edition} {path : List ℕ} {stations : List Station} (shape : Shape edition path)
+    (counted : Counted edition path stations) where
+  index-among : (t m : ℕ) → t < infos path → m < countOf path t → stationIndex edition path t m < length stations
   index-among t m h w =
       omega (arith, counted .many, station-among shape t m h w, start-enough shape t h)
 
   -- a hop of the facts
-  facts-of : (readings : List ℕ) → AllFacts path 0 0 stations readings → (t m : ℕ) → t < infos path → m < countOf path t
-      → HopFacts path (stationOf stations path t m) (getD readings (stationIndex path t m) 0) t m
-  facts-of readings facts t m h w = facts (stationIndex path t m) t m (index-among t m h w) h w (omega (arith, start-enough shape t h))
+  facts-of : (readings : List ℕ) → AllFacts edition path 0 0 stations readings → (t m : ℕ) → t < infos path → m < countOf path t
+      → HopFacts edition path (stationOf edition stations path t m) (getD readings (stationIndex edition path t m) 0) t m
+  facts-of readings facts t m h w =
+      facts (stationIndex edition path t m) t m (index-among t m h w) h w (omega (arith, start-enough shape t h, shared-first edition path))
 
-module _ (stations : List Station) (earliest latest : ℕ) (path : List ℕ) where
+module _ (edition : Edition) (stations : List Station) (earliest latest : ℕ) (path : List ℕ) where
   -- ---- from the check to the facts
 
-  module _ (e : passes stations earliest latest path ≡ true) where
-    abbrev fits : Bool
-    fits = lengthsFit (seg0Len path) (seg1Len path) (seg2Len path)
-
-    parts : (fits ≡ true) × (all (infos path) (segmentPasses stations earliest latest path) ≡ true)
-        × (all (infos path - 1) (jointPasses stations path) ≡ true)
+  module _ (e : passes edition stations earliest latest path ≡ true) where
+    pub passes-fits : peeringFits edition path ≡ true
     unfolding passes
-    parts = each-of-3 fits _ _ e
+    passes-fits = first-of (peeringFits edition path) _ e
 
-    pub passes-shape : Shape path
-    passes-shape = fit-shape path (parts .0)
+    parts : (lengthsPass edition path ≡ true) × (all (infos path) (segmentPasses edition stations earliest latest path) ≡ true)
+        × (all (infos path - 1) (jointPasses edition stations path) ≡ true)
+    unfolding passes
+    parts = each-of-3 (lengthsPass edition path) _ _ (second-of (peeringFits edition path) _ e)
 
-    segment-passes : (t : ℕ) → t < infos path → segmentPasses stations earliest latest path t ≡ true
-    segment-passes t h = all-at (infos path) (segmentPasses stations earliest latest path) (parts .1) t h
+    pub passes-shape : Shape edition path
+    passes-shape = fit-shape edition path (parts .0)
 
-    joint-passes : (t : ℕ) → t + 1 < infos path → jointPasses stations path t ≡ true
-    joint-passes t h = all-at (infos path - 1) (jointPasses stations path) (parts .2) t (omega arith)
+    segment-passes : (t : ℕ) → t < infos path → segmentPasses edition stations earliest latest path t ≡ true
+    segment-passes t h = all-at (infos path) (segmentPasses edition stations earliest latest path) (parts .1) t h
+
+    joint-passes : (t : ℕ) → t + 1 < infos path → jointPasses edition stations path t ≡ true
+    joint-passes t h = all-at (infos path - 1) (jointPasses edition stations path) (parts .2) t (omega arith)
 
     early : (t : ℕ) → t < infos path → timestamp (infoField path t) ≤ earliest
     unfolding segmentPasses segmentFits
     early t h = leb-true _ _ (first-of (leb (timestamp (infoField path t)) earliest) _ (segment-passes t h))
 
     hop-fits : (t m : ℕ) → t < infos path → m < countOf path t
-        → hopFits (stationOf stations path t m) latest (infoField path t) (hopOf path t) (countOf path t) m ≡ true
+        → hopFits (stationOf edition stations path t m) latest (peeringHopOf edition path t) (infoField path t) (hopOf path t) (countOf path t) m
+        ≡ true
     unfolding segmentPasses segmentFits
     hop-fits t m h w =
-        all-at (countOf path t) (λ m. hopFits (stationOf stations path t m) latest (infoField path t) (hopOf path t) (countOf path t) m)
+        all-at (countOf path t) (λ m. hopFits (stationOf edition stations path t m) latest (peeringHopOf edition path t) (infoField path t)
+        (hopOf path t) (countOf path t) m)
         (second-of (leb (timestamp (infoField path t)) earliest) _ (segment-passes t h)) m w
 
     -- the four tests of a hop
     record Fitting (t m : ℕ) : Type 0 where
       late : latest ≤ expiry (timestamp (infoField path t)) (expTime (hopOf path t m))
-      mac : macFits (stationOf stations path t m) (infoField path t) (hopOf path t) m ≡ true
-      came : 1 ≤ m → arrivesBy (stationOf stations path t m) (infoField path t) (hopOf path t m) ≡ true
-      goes : m + 1 < countOf path t → leavesBy (stationOf stations path t m) (infoField path t) (hopOf path t m) ≡ true
+      mac : macFits (stationOf edition stations path t m) (peeringHopOf edition path t) (infoField path t) (hopOf path t) m ≡ true
+      came : 1 ≤ m → arrivesBy (stationOf edition stations path t m) (infoField path t) (hopOf path t m) ≡ true
+      goes : m + 1 < countOf path t → leavesBy (stationOf edition stations path t m) (infoField path t) (hopOf path t m) ≡ true
 
     fitting : (t m : ℕ) → t < infos path → m < countOf path t → Fitting t m
     unfolding hopFits
     fitting t m h w =
-        let station = stationOf stations path t m in
+        let station = stationOf edition stations path t m in
         let info = infoField path t in
-        let held = each-of-4 (leb latest (expiry (timestamp info) (expTime (hopOf path t m)))) (macFits station info (hopOf path t) m)
+        let held = each-of-4 (leb latest (expiry (timestamp info) (expTime (hopOf path t m))))
+        (macFits station (peeringHopOf edition path t) info (hopOf path t) m)
         (eqb m 0 || arrivesBy station info (hopOf path t m)) (leb (countOf path t) (m + 1) || leavesBy station info (hopOf path t m))
         (hop-fits t m h w) in
         record {
@@ -137,138 +170,201 @@ module _ (stations : List Station) (earliest latest : ℕ) (path : List ℕ) whe
           ≡ true
       came : arrivesBy station (infoField path (t + 1)) (hopOf path (t + 1) 0) ≡ true
 
-    joining : (t : ℕ) → t + 1 < infos path → Joining (stationOf stations path (t + 1) 0) t (countOf path t - 1)
+    joining : peeringPath edition path ≡ false → (t : ℕ) → t + 1 < infos path
+        → Joining (stationOf edition stations path (t + 1) 0) t (countOf path t - 1)
     unfolding jointPasses jointFits
-    joining t h =
-        let station = stationOf stations path (t + 1) 0 in
+    joining plain t h =
+        let station = stationOf edition stations path (t + 1) 0 in
         let into = stateOf (station .ids) (station .states) (travelIngress (consDir (infoField path t)) (hopOf path t (countOf path t - 1))) in
         let out = stateOf (station .ids) (station .states) (travelEgress (consDir (infoField path (t + 1))) (hopOf path (t + 1) 0)) in
-        let held = each-of-3 (isListed into) (pairAllowed (linkOf into) (linkOf out)) _ (joint-passes t h) in
+        let held = each-of-3 (isListed into) (pairAllowed (linkOf into) (linkOf out)) _
+        (other (peeringPath edition path) _ _ plain (joint-passes t h)) in
         record { listed = held .0; allowed = held .1; came = held .2 }
 
-    module _ (counted : Counted path stations) where
+    -- a peering joint, at its two stations
+    joined : peeringPath edition path ≡ true → (t : ℕ) → t + 1 < infos path
+        → (leavesBy (stationOf edition stations path t (countOf path t - 1)) (infoField path t) (hopOf path t (countOf path t - 1)) ≡ true)
+        × (arrivesBy (stationOf edition stations path (t + 1) 0) (infoField path (t + 1)) (hopOf path (t + 1) 0) ≡ true)
+    unfolding jointPasses linkFits
+    joined p t h =
+        let both-good = chosen (peeringPath edition path) _ _ p (joint-passes t h) in (
+          first-of _ _ both-good,
+          second-of (leavesBy (stationOf edition stations path t (countOf path t - 1)) (infoField path t)
+              (hopOf path t (countOf path t - 1))) _ both-good,
+        )
+
+    came-over : (t : ℕ) → t + 1 < infos path
+        → arrivesBy (stationOf edition stations path (t + 1) 0) (infoField path (t + 1)) (hopOf path (t + 1) 0) ≡ true
+    came-over t h = go (peeringPath edition path) refl
+      where
+        go : (peer : Bool) → peeringPath edition path ≡ peer
+            → arrivesBy (stationOf edition stations path (t + 1) 0) (infoField path (t + 1)) (hopOf path (t + 1) 0) ≡ true
+        go true p = joined p t h .1
+        go false p = joining p t h .came
+
+    module _ (counted : Counted edition path stations) where
       -- 9, at the station of a hop
       abbrev Came : ℕ → ℕ → Type 0
-      Came t m = letIn (stationOf stations path t m) (infoField path t) (hopOf path t m) ≡ true
+      Came t m = letIn (stationOf edition stations path t m) (infoField path t) (hopOf path t m) ≡ true
 
       came-by : (t m : ℕ) → t < infos path → m < countOf path t → Came t m
-      came-by zero zero h w = local-let-in (stationOf stations path 0 0) (infoField path 0) (hopOf path 0 0) (counted .first)
+      came-by zero zero h w = local-let-in (stationOf edition stations path 0 0) (infoField path 0) (hopOf path 0 0)
+          (let e : stationIndex edition path 0 0 ≡ 0 = omega (arith, shared-first edition path) in rw e (counted .first))
       came-by (suc t) zero h w =
           let more : t + 1 ≡ suc t = omega arith in
           subst (λ (u : ℕ). Came u 0) more
-          (arrives-let-in (stationOf stations path (t + 1) 0) (infoField path (t + 1)) (hopOf path (t + 1) 0) (joining t (omega arith) .came))
+          (arrives-let-in (stationOf edition stations path (t + 1) 0) (infoField path (t + 1)) (hopOf path (t + 1) 0)
+          (came-over t (omega arith)))
       came-by t (suc m) h w =
-          arrives-let-in (stationOf stations path t (suc m)) (infoField path t) (hopOf path t (suc m))
+          arrives-let-in (stationOf edition stations path t (suc m)) (infoField path t) (hopOf path t (suc m))
           (fitting t (suc m) h w .came (omega arith))
 
       -- 14 to 16, at the station of a segment's last hop
-      linked : (t m : ℕ) → t + 1 < infos path → m + 1 ≡ countOf path t → linkGood path (stationOf stations path t m) t m ≡ true
+      linked : peeringPath edition path ≡ false → (t m : ℕ) → t + 1 < infos path → m + 1 ≡ countOf path t
+          → linkGood path (stationOf edition stations path t m) t m ≡ true
       unfolding yes
-      linked t m h e =
+      linked plain t m h e =
           let shape = passes-shape in
-          let long = all-long shape (t + 1) h in
+          let long = all-double shape plain (t + 1) h in
+          let these = shared-plain edition path plain t in
+          let those = shared-plain edition path plain (t + 1) in
           let t3 = at-most-three path (t + 1) h in
           let last : countOf path t - 1 ≡ m = omega arith in
-          let here : stationIndex path (t + 1) 0 ≡ stationIndex path t m =
+          let here : stationIndex edition path (t + 1) 0 ≡ stationIndex edition path t m =
           omega (arith, start-next path t (omega arith), start-enough shape t (omega arith)) in
-          let j = joining t h in
-          let out = leaves-listed (stationOf stations path (t + 1) 0) (infoField path (t + 1)) (hopOf path (t + 1) 0)
+          let j = joining plain t h in
+          let out = leaves-listed (stationOf edition stations path (t + 1) 0) (infoField path (t + 1)) (hopOf path (t + 1) 0)
           (fitting (t + 1) 0 h (omega arith) .goes (omega arith)) in
-          subst (λ (n : ℕ). linkGood path (stationOf stations path t m) t n ≡ true) last
+          subst (λ (n : ℕ). linkGood path (stationOf edition stations path t m) t n ≡ true) last
           (subst (λ (k : ℕ). linkGood path (getD stations k noStation) t (countOf path t - 1) ≡ true) here
           (both (j .listed) (both out (both (j .allowed) refl))))
 
+      goes : (t m : ℕ) → t < infos path → m < countOf path t → Onward edition path t m
+          → leavesBy (stationOf edition stations path t m) (infoField path t) (hopOf path t m) ≡ true
+      goes t m h w (inner k) = fitting t m h w .goes k
+      goes t m h w (over p z k) =
+          let last : countOf path t - 1 ≡ m = omega arith in
+          subst (λ (n : ℕ). leavesBy (stationOf edition stations path t n) (infoField path t) (hopOf path t n) ≡ true) last
+          (joined p t (omega (arith, linked-infos edition path p)) .0)
+
       pub check-facts : (readings : List ℕ) → ((k : ℕ) → k < length stations → earliest ≤ getD readings k 0)
-          → ((k : ℕ) → k < length stations → getD readings k 0 ≤ latest) → AllFacts path 0 0 stations readings
+          → ((k : ℕ) → k < length stations → getD readings k 0 ≤ latest) → AllFacts edition path 0 0 stations readings
       unfolding yes macFits
       check-facts readings low high i t m l h w q =
-          let here : stationIndex path t m ≡ i = omega (arith, start-enough passes-shape t h) in
+          let here : stationIndex edition path t m ≡ i = omega (arith, start-enough passes-shape t h, shared-first edition path) in
           let f = fitting t m h w in
-          subst (λ (k : ℕ). HopFacts path (getD stations k noStation) (getD readings i 0) t m) here
+          subst (λ (k : ℕ). HopFacts edition path (getD stations k noStation) (getD readings i 0) t m) here
           (record {
             good = both (came-by t m h w)
                 (both (le-leb _ _ (le-trans (early t h) (low i l)))
                 (both (le-leb _ _ (le-trans (high i l) (f .late))) (both (f .mac) refl)));
-            way = λ k. f .goes k;
-            link = λ j k. linked t m k j;
+            way = goes t m h w;
+            link = λ p j k. linked p t m k j;
           })
 
   -- ---- from the facts at the earliest readings and at the latest to the check
 
-  module _ (shape : Shape path) (counted : Counted path stations) (early late : List ℕ)
+  module _ (shape : Shape edition path) (fits : peeringFits edition path ≡ true) (counted : Counted edition path stations) (early late : List ℕ)
       (low : (k : ℕ) → k < length stations → getD early k 0 ≤ earliest) (high : (k : ℕ) → k < length stations → latest ≤ getD late k 0)
-      (at-early : AllFacts path 0 0 stations early) (at-late : AllFacts path 0 0 stations late) where
+      (at-early : AllFacts edition path 0 0 stations early) (at-late : AllFacts edition path 0 0 stations late) where
     -- what 9 to 12 say of a hop
     record Told (reading t m : ℕ) : Type 0 where
-      came : letIn (stationOf stations path t m) (infoField path t) (hopOf path t m) ≡ true
+      came : letIn (stationOf edition stations path t m) (infoField path t) (hopOf path t m) ≡ true
       begun : timestamp (infoField path t) ≤ reading
       alive : reading ≤ expiry (timestamp (infoField path t)) (expTime (hopOf path t m))
-      mac : macFits (stationOf stations path t m) (infoField path t) (hopOf path t) m ≡ true
+      mac : macFits (stationOf edition stations path t m) (peeringHopOf edition path t) (infoField path t) (hopOf path t) m ≡ true
 
-    told : (readings : List ℕ) → AllFacts path 0 0 stations readings → (t m : ℕ) → t < infos path → m < countOf path t
-        → Told (getD readings (stationIndex path t m) 0) t m
+    told : (readings : List ℕ) → AllFacts edition path 0 0 stations readings → (t m : ℕ) → t < infos path → m < countOf path t
+        → Told (getD readings (stationIndex edition path t m) 0) t m
     unfolding yes macFits
     told readings facts t m h w =
-        let reading = getD readings (stationIndex path t m) 0 in
+        let reading = getD readings (stationIndex edition path t m) 0 in
         let four = facts-of shape counted readings facts t m h w .good in
-        let three = second-of (letIn (stationOf stations path t m) (infoField path t) (hopOf path t m)) _ four in
+        let three = second-of (letIn (stationOf edition stations path t m) (infoField path t) (hopOf path t m)) _ four in
         let two = second-of (leb (timestamp (infoField path t)) reading) _ three in
         let last = second-of (leb reading (expiry (timestamp (infoField path t)) (expTime (hopOf path t m)))) _ two in
         record {
-          came = first-of (letIn (stationOf stations path t m) (infoField path t) (hopOf path t m)) _ four;
+          came = first-of (letIn (stationOf edition stations path t m) (infoField path t) (hopOf path t m)) _ four;
           begun = leb-true _ _ (first-of (leb (timestamp (infoField path t)) reading) _ three);
           alive = leb-true _ _ (first-of (leb reading (expiry (timestamp (infoField path t)) (expTime (hopOf path t m)))) _ two);
           mac = first-of _ true last;
         }
 
     -- a station but the first is reached from outside
-    from-outside : (t m : ℕ) → t < infos path → m < countOf path t → 1 ≤ stationIndex path t m
-        → arrivesBy (stationOf stations path t m) (infoField path t) (hopOf path t m) ≡ true
+    from-outside : (t m : ℕ) → t < infos path → m < countOf path t → 1 ≤ stationIndex edition path t m
+        → arrivesBy (stationOf edition stations path t m) (infoField path t) (hopOf path t m) ≡ true
     from-outside t m h w k =
-        let-in-arrives (stationOf stations path t m) (infoField path t) (hopOf path t m)
-        (counted .later (stationIndex path t m) k (index-among shape counted t m h w)) (told early at-early t m h w .came)
+        let-in-arrives (stationOf edition stations path t m) (infoField path t) (hopOf path t m)
+        (counted .later (stationIndex edition path t m) k (index-among shape counted t m h w)) (told early at-early t m h w .came)
 
     hop-passes : (t m : ℕ) → t < infos path → m < countOf path t
-        → hopFits (stationOf stations path t m) latest (infoField path t) (hopOf path t) (countOf path t) m ≡ true
+        → hopFits (stationOf edition stations path t m) latest (peeringHopOf edition path t) (infoField path t) (hopOf path t) (countOf path t) m
+        ≡ true
     unfolding hopFits
     hop-passes t m h w =
         both
         (both
-        (both (le-leb _ _ (le-trans (high (stationIndex path t m) (index-among shape counted t m h w)) (told late at-late t m h w .alive)))
+        (both (le-leb _ _ (le-trans (high (stationIndex edition path t m) (index-among shape counted t m h w))
+        (told late at-late t m h w .alive)))
         (told early at-early t m h w .mac))
         (either (eqb m 0) _ (λ e. from-outside t m h w (omega (arith, eqb-false m 0 e)))))
-        (either (leb (countOf path t) (m + 1)) _ (λ e. facts-of shape counted early at-early t m h w .way (leb-false _ _ e)))
+        (either (leb (countOf path t) (m + 1)) _ (λ e. facts-of shape counted early at-early t m h w .way (inner (leb-false _ _ e))))
 
-    segment-good : (t : ℕ) → t < infos path → segmentPasses stations earliest latest path t ≡ true
+    segment-good : (t : ℕ) → t < infos path → segmentPasses edition stations earliest latest path t ≡ true
     unfolding segmentPasses segmentFits
     segment-good t h =
         let long = all-long shape t h in
         let some : 0 < countOf path t = omega arith in
         both
-        (le-leb _ _ (le-trans (told early at-early t 0 h some .begun) (low (stationIndex path t 0) (index-among shape counted t 0 h some))))
+        (le-leb _ _ (le-trans (told early at-early t 0 h some .begun)
+        (low (stationIndex edition path t 0) (index-among shape counted t 0 h some))))
         (all-of (countOf path t) _ (λ m w. hop-passes t m h w))
 
-    joint-good : (t : ℕ) → t + 1 < infos path → jointPasses stations path t ≡ true
+    plain-good : peeringPath edition path ≡ false → (t : ℕ) → t + 1 < infos path → jointPasses edition stations path t ≡ true
     unfolding jointPasses jointFits yes
-    joint-good t h =
-        let long = all-long shape t (omega arith) in
-        let long-next = all-long shape (t + 1) h in
+    plain-good plain t h =
+        let long = all-double shape plain t (omega arith) in
+        let long-next = all-double shape plain (t + 1) h in
+        let these = shared-plain edition path plain t in
+        let those = shared-plain edition path plain (t + 1) in
         let t3 = at-most-three path (t + 1) h in
         let enough = start-enough shape t (omega arith) in
         let next = start-next path t (omega arith) in
         let m = countOf path t - 1 in
-        let here : stationIndex path t m ≡ stationIndex path (t + 1) 0 = omega arith in
-        let station = stationOf stations path (t + 1) 0 in
+        let here : stationIndex edition path t m ≡ stationIndex edition path (t + 1) 0 = omega arith in
+        let station = stationOf edition stations path (t + 1) 0 in
         let into = stateOf (station .ids) (station .states) (travelIngress (consDir (infoField path t)) (hopOf path t m)) in
         let out = stateOf (station .ids) (station .states) (travelEgress (consDir (infoField path (t + 1))) (hopOf path (t + 1) 0)) in
         let linked : (isListed into && (isListed out && (pairAllowed (linkOf into) (linkOf out) && true))) ≡ true =
         subst (λ (k : ℕ). linkGood path (getD stations k noStation) t m ≡ true) here
-        (facts-of shape counted early at-early t m (omega arith) (omega arith) .link (omega arith) h) in
-        both
+        (facts-of shape counted early at-early t m (omega arith) (omega arith) .link plain (omega arith) h) in
+        choose-other (peeringPath edition path) _ _ plain
+        (both
         (both (first-of (isListed into) _ linked) (first-of _ true (second-of (isListed out) _ (second-of (isListed into) _ linked))))
-        (from-outside (t + 1) 0 h (omega arith) (omega arith))
+        (from-outside (t + 1) 0 h (omega arith) (omega arith)))
 
-    pub facts-check : passes stations earliest latest path ≡ true
+    linked-good : peeringPath edition path ≡ true → (t : ℕ) → t + 1 < infos path → jointPasses edition stations path t ≡ true
+    unfolding jointPasses linkFits
+    linked-good p t h =
+        let two = linked-infos edition path p in
+        let long = all-long shape t (omega arith) in
+        let long-next = all-long shape (t + 1) h in
+        let next = start-next path t (omega arith) in
+        let none = shared-linked edition path p (t + 1) in
+        let m = countOf path t - 1 in
+        choose (peeringPath edition path) _ _ p
+        (both (facts-of shape counted early at-early t m (omega arith) (omega arith) .way (over p (omega arith) (omega arith)))
+        (from-outside (t + 1) 0 h (omega arith) (omega arith)))
+
+    joint-good : (t : ℕ) → t + 1 < infos path → jointPasses edition stations path t ≡ true
+    joint-good t h = go (peeringPath edition path) refl
+      where
+        go : (peer : Bool) → peeringPath edition path ≡ peer → jointPasses edition stations path t ≡ true
+        go true p = linked-good p t h
+        go false p = plain-good p t h
+
+    pub facts-check : passes edition stations earliest latest path ≡ true
     unfolding passes
     facts-check =
-        both (both (shape-fit shape) (all-of (infos path) _ segment-good)) (all-of (infos path - 1) _ (λ t h. joint-good t (omega arith)))
+        both fits
+        (both (both (shape-fit shape) (all-of (infos path) _ segment-good)) (all-of (infos path - 1) _ (λ t h. joint-good t (omega arith))))

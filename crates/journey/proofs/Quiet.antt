@@ -9,12 +9,14 @@ use borrow.Author.Tests.{eqb-false}
 use lib.Dec.{eqb}
 use lib.ListN.{getD, set}
 use lib.Seq.{set-getD}
-use Rattle.standard_path.specs.Fields.{currInf, currHf, consDir, consIngressAlert, consEgressAlert, travelIngressAlert, travelEgressAlert, setCurrHf}
+use Rattle.standard_path.specs.Fields.{currInf, currHf, consDir, consIngressAlert, consEgressAlert, travelIngressAlert, travelEgressAlert, setCurrHf, setCurrInf}
 use Rattle.standard_path.specs.Header.{infos, hopField}
 use Rattle.standard_path.specs.Moves.{flagsAt, withoutIngress, withoutEgress, clearIngressAlert}
 use Rattle.standard_path.proofs.Kept.{hop-byte}
+use Rattle.edition.specs.declared.Edition.{Edition}
+use Rattle.routing.specs.Place.{isPeeringHop, crosses}
 use Rattle.routing.specs.Ingress.{hop, info, stepped, stepsAtIngress, ingressFields}
-use Rattle.routing.specs.Egress.{egressMove}
+use Rattle.routing.specs.Egress.{stepsAtEgress, egressMove}
 use Rattle.routing.proofs.Touched.{stepped-hop}
 
 pub record Quiet (hop : List ℕ) : Type 0 where
@@ -60,20 +62,25 @@ quiet-clear path c h q =
         let z : withoutEgress flags ≡ getD path (flagsAt path h) 0 = omega arith in
         rw z (set-getD path (flagsAt path h) 0)
 
-module _ (path : List ℕ) (inside : currInf path < infos path) (q : Quiet (hop path)) where
+module _ (edition : Edition) (path : List ℕ) (inside : currInf path < infos path) (q : Quiet (hop path)) where
   cleared-stepped : (taken c : Bool) → clearIngressAlert (stepped path taken) c (currHf path) ≡ stepped path taken
   cleared-stepped taken c = quiet-clear (stepped path taken) c (currHf path) (rw (stepped-hop path inside taken (currHf path)) q)
 
-  pub quiet-fields : (interface : ℕ) → ingressFields path interface ≡ stepped path (stepsAtIngress path interface)
+  pub quiet-fields : (interface : ℕ) → ingressFields edition path interface ≡ stepped path (stepsAtIngress edition path interface)
   unfolding stepped
   quiet-fields interface = go (eqb interface 0)
     where
       go : (local : Bool)
-          → let taken = not local && not (consDir (info path)) in
+          → let taken = not local && (not (isPeeringHop edition path) && not (consDir (info path))) in
           cond local path (clearIngressAlert (stepped path taken) (consDir (info path)) (currHf path)) ≡ stepped path taken
       go true = refl
-      go false = cleared-stepped (not false && not (consDir (info path))) (consDir (info path))
+      go false = cleared-stepped (not (isPeeringHop edition path) && not (consDir (info path))) (consDir (info path))
 
-  pub quiet-egress-move : egressMove path ≡ setCurrHf (stepped path (consDir (info path))) (currHf path + 1)
+  abbrev pub ahead : List ℕ
+  ahead = setCurrHf (stepped path (stepsAtEgress edition path)) (currHf path + 1)
+
+  pub quiet-egress-move : egressMove edition path ≡ cond (crosses edition path) (setCurrInf ahead (currInf path + 1)) ahead
   unfolding egressMove
-  quiet-egress-move = ap (λ (z : List ℕ). setCurrHf z (currHf path + 1)) (cleared-stepped _ _)
+  quiet-egress-move =
+      ap (λ (z : List ℕ). let on = setCurrHf z (currHf path + 1) in cond (crosses edition path) (setCurrInf on (currInf path + 1)) on)
+      (cleared-stepped _ _)

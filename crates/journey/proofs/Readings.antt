@@ -15,10 +15,11 @@ use Rattle.validator.specs.declared.answer.LocalAsRoutingAction.the-variants.{I
 use Rattle.validator.specs.declared.answer.AsRoutingAction.the-variants.{Local, ForwardNextHop}
 use Rattle.validator.specs.declared.answer.StepAnswer.{StepAnswer}
 use Rattle.validator.specs.declared.answer.StepAnswer.the-variants.{Action, Refused}
+use Rattle.edition.specs.declared.Edition.{Edition}
 use Rattle.routing.specs.Outcome.{Outcome, asks}
 use Rattle.routing.specs.Place.{before, changes, isFinal, ingressPlace}
 use Rattle.routing.specs.Ingress.{hop, info, ingressMove, alertsAtIngress}
-use Rattle.routing.specs.Egress.{egressAction, egressMove}
+use Rattle.routing.specs.Egress.{leavingAction, egressAction, egressMove}
 use Rattle.routing.specs.Step.{keyMac}
 use Rattle.routing.proofs.Inside.{insideQuestions}
 use Rattle.routing.proofs.Whole.{step-asks, checks, leavingChecks}
@@ -39,14 +40,15 @@ bytesAfter Valid Valid path entered moved egressed = cond egressed moved entered
 bytesAfter Valid (Invalid why) path entered moved egressed = path
 bytesAfter (Invalid why) place path entered moved egressed = path
 
-abbrev pub leftBytes : Station → List ℕ → StepAnswer → List ℕ
-leftBytes station path answer =
-    let entered = ingressMove path (station .arrival) (changes path) in
-    bytesAfter (firstNo (before (station .ids) (station .states) path)) (firstNo (ingressPlace path)) path entered (egressMove entered)
+abbrev pub leftBytes : Edition → Station → List ℕ → StepAnswer → List ℕ
+leftBytes edition station path answer =
+    let entered = ingressMove edition path (station .arrival) (changes edition path) in
+    bytesAfter (firstNo (before (station .ids) (station .states) path)) (firstNo (ingressPlace edition path)) path entered
+    (egressMove edition entered)
     (leftByEgress answer)
 
 egress-action-leaves : (path : List ℕ) → leftByEgress (egressAction path) ≡ true
-unfolding egressAction
+unfolding leavingAction
 egress-action-leaves path =
     go (travelEgressAlert (consDir (info path)) (hop path)) (eqb (travelEgress (consDir (info path)) (hop path)) 0)
   where
@@ -59,19 +61,19 @@ egress-action-leaves path =
     go true false = refl
     go false none = refl
 
-pub bytes-by-answer : (station : Station) (reading : ℕ) (path : List ℕ)
-    → stepAt station reading path .bytes ≡ leftBytes station path (stepAt station reading path .answer)
+pub bytes-by-answer : (edition : Edition) (station : Station) (reading : ℕ) (path : List ℕ)
+    → stepAt edition station reading path .bytes ≡ leftBytes edition station path (stepAt edition station reading path .answer)
 unfolding stepAt
-bytes-by-answer station reading path =
+bytes-by-answer edition station reading path =
     let ids = station .ids in
     let states = station .states in
     let mac = keyMac (station .key) in
     let interface = station .arrival in
-    let entered = ingressMove path interface (changes path) in
-    rw (step-asks ids states mac interface reading false path)
-    (go entered (firstNo (before ids states path)) (firstNo (ingressPlace path))
-    (firstNo (checks ids states mac interface reading false path)) (alertsAtIngress path interface) (isFinal path)
-    (firstNo (leavingChecks ids states mac interface reading false path)) (firstNo (insideQuestions entered)))
+    let entered = ingressMove edition path interface (changes edition path) in
+    rw (step-asks edition ids states mac interface reading false path)
+    (go entered (firstNo (before ids states path)) (firstNo (ingressPlace edition path))
+    (firstNo (checks edition ids states mac interface reading false path)) (alertsAtIngress path interface) (isFinal path)
+    (firstNo (leavingChecks edition ids states mac interface reading false path)) (firstNo (insideQuestions edition entered)))
   where
     go : (entered : List ℕ) (first place passed : Validation) (alert final : Bool) (leaving inside : Validation)
         → let outcome : Outcome StepAnswer =
@@ -81,8 +83,8 @@ bytes-by-answer station reading path =
         (cond alert (record { answer = Action (Local (IngressSCMPHandleRequest (station .arrival))); bytes = entered })
         (cond final (record { answer = Action (Local ForwardLocal); bytes = entered })
         (asks Refused leaving entered
-        (asks Refused inside entered (record { answer = egressAction entered; bytes = egressMove entered }))))))) in
-        outcome .bytes ≡ bytesAfter first place path entered (egressMove entered) (leftByEgress (outcome .answer))
+        (asks Refused inside entered (record { answer = egressAction entered; bytes = egressMove edition entered }))))))) in
+        outcome .bytes ≡ bytesAfter first place path entered (egressMove edition entered) (leftByEgress (outcome .answer))
     go entered (Invalid why) place passed alert final leaving inside = refl
     go entered Valid (Invalid why) passed alert final leaving inside = refl
     go entered Valid Valid (Invalid why) alert final leaving inside = refl
@@ -101,62 +103,71 @@ on-leaves (Action (Local action)) e = let z : _≡_ {A = ℕ} 0 1 = cc in absurd
 on-leaves (Refused why) e = let z : _≡_ {A = ℕ} 0 1 = cc in absurd (omega arith)
 
 -- it goes on with the same bytes whatever the reading
-pub on-alike : (station : Station) (first second : ℕ) (path : List ℕ) → goesOn (stepAt station first path .answer) ≡ true
-    → goesOn (stepAt station second path .answer) ≡ true → stepAt station first path .bytes ≡ stepAt station second path .bytes
-on-alike station first second path a b =
-    bytes-by-answer station first path
-    ∙ rw (on-leaves (stepAt station first path .answer) a)
-    (sym (bytes-by-answer station second path ∙ rw (on-leaves (stepAt station second path .answer) b)))
+pub on-alike : (edition : Edition) (station : Station) (first second : ℕ) (path : List ℕ)
+    → goesOn (stepAt edition station first path .answer) ≡ true
+    → goesOn (stepAt edition station second path .answer) ≡ true
+    → stepAt edition station first path .bytes ≡ stepAt edition station second path .bytes
+on-alike edition station first second path a b =
+    bytes-by-answer edition station first path
+    ∙ rw (on-leaves (stepAt edition station first path .answer) a)
+    (sym (bytes-by-answer edition station second path ∙ rw (on-leaves (stepAt edition station second path .answer) b)))
 
 -- a journey ends at its first station or behind it
-ends-behind : (stations : List Station) (readings : List ℕ) (k : ℕ) (path : List ℕ) {j : ℕ} {answer : StepAnswer} {left : List ℕ}
-    → journey k stations readings path ≡ endedAt j answer left → k ≤ j
+ends-behind : (edition : Edition) (stations : List Station) (readings : List ℕ) (k : ℕ) (path : List ℕ) {j : ℕ} {answer : StepAnswer}
+    {left : List ℕ}
+    → journey edition k stations readings path ≡ endedAt j answer left → k ≤ j
 unfolding journey
-ends-behind [] readings k path e = let z : _≡_ {A = ℕ} 0 1 = cc in absurd (omega arith)
-ends-behind (station ∷ stations) [] k path e = let z : _≡_ {A = ℕ} 0 1 = cc in absurd (omega arith)
-ends-behind (station ∷ stations) (reading ∷ readings) k path {j} {answer} {left} e =
-    go (goesOn (stepAt station reading path .answer) && someLeft stations)
-    (λ q. ends-behind stations readings (suc k) (stepAt station reading path .bytes) q) e
+ends-behind edition [] readings k path e = let z : _≡_ {A = ℕ} 0 1 = cc in absurd (omega arith)
+ends-behind edition (station ∷ stations) [] k path e = let z : _≡_ {A = ℕ} 0 1 = cc in absurd (omega arith)
+ends-behind edition (station ∷ stations) (reading ∷ readings) k path {j} {answer} {left} e =
+    go (goesOn (stepAt edition station reading path .answer) && someLeft stations)
+    (λ q. ends-behind edition stations readings (suc k) (stepAt edition station reading path .bytes) q) e
   where
-    go : (on : Bool) → (journey (suc k) stations readings (stepAt station reading path .bytes) ≡ endedAt j answer left → suc k ≤ j)
-        → orEnds on k (stepAt station reading path) (journey (suc k) stations readings (stepAt station reading path .bytes))
+    go : (on : Bool)
+        → (journey edition (suc k) stations readings (stepAt edition station reading path .bytes) ≡ endedAt j answer left → suc k ≤ j)
+        → orEnds on k (stepAt edition station reading path)
+        (journey edition (suc k) stations readings (stepAt edition station reading path .bytes))
         ≡ endedAt j answer left → k ≤ j
     go true rest q = let l = rest q in omega arith
     go false rest q = let same : k ≡ j = cc in omega arith
 
 -- two journeys over the same stations, from the same bytes, that end at one station with one answer leave the same bytes
-pub same-bytes : (stations : List Station) (first second : List ℕ) (k : ℕ) (path : List ℕ) {j : ℕ} {answer : StepAnswer}
-    {left1 left2 : List ℕ} → journey k stations first path ≡ endedAt j answer left1 → journey k stations second path ≡ endedAt j answer left2
+pub same-bytes : (edition : Edition) (stations : List Station) (first second : List ℕ) (k : ℕ) (path : List ℕ) {j : ℕ} {answer : StepAnswer}
+    {left1 left2 : List ℕ} → journey edition k stations first path ≡ endedAt j answer left1
+    → journey edition k stations second path ≡ endedAt j answer left2
     → left1 ≡ left2
 unfolding journey
-same-bytes [] first second k path e f = let z : _≡_ {A = ℕ} 0 1 = cc in absurd (omega arith)
-same-bytes (station ∷ stations) [] second k path e f = let z : _≡_ {A = ℕ} 0 1 = cc in absurd (omega arith)
-same-bytes (station ∷ stations) (reading ∷ first) [] k path e f = let z : _≡_ {A = ℕ} 0 1 = cc in absurd (omega arith)
-same-bytes (station ∷ stations) (reading1 ∷ first) (reading2 ∷ second) k path {j} {answer} {left1} {left2} e f =
-    go (goesOn (stepAt station reading1 path .answer) && someLeft stations) refl
-    (goesOn (stepAt station reading2 path .answer) && someLeft stations) refl
-    (λ q r. same-bytes stations first second (suc k) (stepAt station reading1 path .bytes) q r) e f
+same-bytes edition [] first second k path e f = let z : _≡_ {A = ℕ} 0 1 = cc in absurd (omega arith)
+same-bytes edition (station ∷ stations) [] second k path e f = let z : _≡_ {A = ℕ} 0 1 = cc in absurd (omega arith)
+same-bytes edition (station ∷ stations) (reading ∷ first) [] k path e f = let z : _≡_ {A = ℕ} 0 1 = cc in absurd (omega arith)
+same-bytes edition (station ∷ stations) (reading1 ∷ first) (reading2 ∷ second) k path {j} {answer} {left1} {left2} e f =
+    go (goesOn (stepAt edition station reading1 path .answer) && someLeft stations) refl
+    (goesOn (stepAt edition station reading2 path .answer) && someLeft stations) refl
+    (λ q r. same-bytes edition stations first second (suc k) (stepAt edition station reading1 path .bytes) q r) e f
   where
-    go : (on1 : Bool) → (goesOn (stepAt station reading1 path .answer) && someLeft stations) ≡ on1
-        → (on2 : Bool) → (goesOn (stepAt station reading2 path .answer) && someLeft stations) ≡ on2
-        → (journey (suc k) stations first (stepAt station reading1 path .bytes) ≡ endedAt j answer left1
-        → journey (suc k) stations second (stepAt station reading1 path .bytes) ≡ endedAt j answer left2 → left1 ≡ left2)
-        → orEnds on1 k (stepAt station reading1 path) (journey (suc k) stations first (stepAt station reading1 path .bytes))
+    go : (on1 : Bool) → (goesOn (stepAt edition station reading1 path .answer) && someLeft stations) ≡ on1
+        → (on2 : Bool) → (goesOn (stepAt edition station reading2 path .answer) && someLeft stations) ≡ on2
+        → (journey edition (suc k) stations first (stepAt edition station reading1 path .bytes) ≡ endedAt j answer left1
+        → journey edition (suc k) stations second (stepAt edition station reading1 path .bytes) ≡ endedAt j answer left2 → left1 ≡ left2)
+        → orEnds on1 k (stepAt edition station reading1 path)
+        (journey edition (suc k) stations first (stepAt edition station reading1 path .bytes))
         ≡ endedAt j answer left1
-        → orEnds on2 k (stepAt station reading2 path) (journey (suc k) stations second (stepAt station reading2 path .bytes))
+        → orEnds on2 k (stepAt edition station reading2 path)
+        (journey edition (suc k) stations second (stepAt edition station reading2 path .bytes))
         ≡ endedAt j answer left2 → left1 ≡ left2
     go true a true b rest e f =
-        let alike = on-alike station reading1 reading2 path (first-of _ (someLeft stations) a) (first-of _ (someLeft stations) b) in
+        let alike = on-alike edition station reading1 reading2 path (first-of _ (someLeft stations) a) (first-of _ (someLeft stations) b) in
         rest e (rw alike f)
     go true a false b rest e f =
-        let l = ends-behind stations first (suc k) (stepAt station reading1 path .bytes) e in
+        let l = ends-behind edition stations first (suc k) (stepAt edition station reading1 path .bytes) e in
         let same : k ≡ j = cc in absurd (omega arith)
     go false a true b rest e f =
-        let l = ends-behind stations second (suc k) (stepAt station reading2 path .bytes) f in
+        let l = ends-behind edition stations second (suc k) (stepAt edition station reading2 path .bytes) f in
         let same : k ≡ j = cc in absurd (omega arith)
     go false a false b rest e f =
-        let answers : stepAt station reading1 path .answer ≡ stepAt station reading2 path .answer = cc in
-        let left-1 : stepAt station reading1 path .bytes ≡ left1 = cc in
-        let left-2 : stepAt station reading2 path .bytes ≡ left2 = cc in
-        sym left-1 ∙ bytes-by-answer station reading1 path ∙ ap (leftBytes station path) answers ∙ sym (bytes-by-answer station reading2 path)
+        let answers : stepAt edition station reading1 path .answer ≡ stepAt edition station reading2 path .answer = cc in
+        let left-1 : stepAt edition station reading1 path .bytes ≡ left1 = cc in
+        let left-2 : stepAt edition station reading2 path .bytes ≡ left2 = cc in
+        sym left-1 ∙ bytes-by-answer edition station reading1 path ∙ ap (leftBytes edition station path) answers
+        ∙ sym (bytes-by-answer edition station reading2 path)
         ∙ left-2

@@ -1,7 +1,7 @@
 -- Where a path stands on its way: at hop m of segment t, with a SegID in that segment's info field, and else as it was given.
 -- Assumes nothing.
 use mathlib.Core.Path.{_≡_, refl, ap, sym, _∙_}
-use mathlib.Core.Bool.{Bool, true, false, not, _&&_, cond}
+use mathlib.Core.Bool.{Bool, true, false, not, _&&_, cond, and-false}
 use mathlib.Core.List.{List, [], _∷_, _++_}
 use Prim.Native.Nat.{ℕ, zero, suc, _+_, _-_, _≤_, _<_}
 use native.Mathlib.Omega.{arith}
@@ -16,34 +16,71 @@ use Rattle.standard_path.proofs.HopMac.{chaining-append}
 use Rattle.standard_path.proofs.Kept.{Kept, kept-trans, infos-kept}
 use Rattle.standard_path.proofs.IndexSet.{set-hf-kept, set-hf-hop, set-hf-info, set-inf-kept, set-inf-hop, set-inf-info}
 use Rattle.standard_path.proofs.IndexSet.{hf-after-hf, inf-after-hf, hf-after-inf, inf-after-inf}
+use Rattle.edition.specs.declared.Edition.{Edition}
+use Rattle.edition.specs.Edition.{peeringPath, firstPeeringHop, peeringQuestions}
+use Rattle.routing.specs.Place.{isPeeringHop, crosses}
 use Rattle.routing.specs.Ingress.{hop, info, stepped, ingressFields}
 use Rattle.routing.specs.Egress.{egressMove}
+use Rattle.edition.proofs.Peering.{peering-path-kept, questions-kept, peering-hop-kept}
 use Rattle.routing.proofs.Touched.{SameInfo, stepped-kept, stepped-inf, stepped-hf, stepped-hop, stepped-info, stepped-info-other, stepped-seg-id}
-use Rattle.journey.specs.Check.{startOf, hopOf, macsFrom, chainedSegId}
+use Rattle.journey.specs.Check.{startOf, hopOf, peeringHopOf, macsFrom, chainedSegId}
 use Rattle.journey.proofs.Quiet.{Quiet, quiet-fields, quiet-egress-move}
 
 -- ---- the SegID of a segment, beta step after beta step
 
-macs-one-more : (hop : ℕ → List ℕ) (first n : ℕ) → macsFrom hop first (suc n) ≡ macsFrom hop first n ++ (macField (hop (first + n)) ∷ [])
-unfolding macsFrom
-macs-one-more hop first zero = let e : first + 0 ≡ first = omega arith in rw e
-macs-one-more hop first (suc n) =
-    let e : first + suc n ≡ suc first + n = omega arith in
-    rw e (ap (λ (z : List (List ℕ)). macField (hop first) ∷ z) (macs-one-more hop (suc first) n))
+module _ (peer : ℕ → Bool) (hop : ℕ → List ℕ) where
+  macs-one-more : (first n : ℕ)
+      → macsFrom peer hop first (suc n)
+      ≡ cond (peer (first + n)) (macsFrom peer hop first n) (macsFrom peer hop first n ++ (macField (hop (first + n)) ∷ []))
+  unfolding macsFrom
+  macs-one-more first zero = let e : first + 0 ≡ first = omega arith in rw e
+  macs-one-more first (suc n) =
+      let e : first + suc n ≡ suc first + n = omega arith in
+      rw (e, macs-one-more (suc first) n) (go (peer first) (peer (suc first + n)))
+    where
+      rest : List (List ℕ)
+      rest = macsFrom peer hop (suc first) n
 
-pub chain-one-more : (info : List ℕ) (hop : ℕ → List ℕ) (n : ℕ)
-    → chainedSegId info hop (suc n) ≡ macBetaStep (chainedSegId info hop n) (macField (hop (byDirection (consDir info) 0 1 + n)))
-unfolding chainedSegId macChainingBeta
-chain-one-more info hop n =
-    ap (macChainingBeta (segId info)) (macs-one-more hop (byDirection (consDir info) 0 1) n)
-    ∙ chaining-append (segId info) (macsFrom hop (byDirection (consDir info) 0 1) n) _
+      new : List (List ℕ)
+      new = macField (hop (suc first + n)) ∷ []
+
+      go : (a b : Bool)
+          → cond a (cond b rest (rest ++ new)) (macField (hop first) ∷ cond b rest (rest ++ new))
+          ≡ cond b (cond a rest (macField (hop first) ∷ rest)) (cond a rest (macField (hop first) ∷ rest) ++ new)
+      go true true = refl
+      go true false = refl
+      go false true = refl
+      go false false = refl
+
+  -- a peering hop's head is left out
+  pub chain-one-more : (info : List ℕ) (n : ℕ)
+      → let next = byDirection (consDir info) 0 1 + n in
+      chainedSegId peer info hop (suc n)
+      ≡ cond (peer next) (chainedSegId peer info hop n) (macBetaStep (chainedSegId peer info hop n) (macField (hop next)))
+  unfolding chainedSegId macChainingBeta
+  chain-one-more info n =
+      ap (macChainingBeta (segId info)) (macs-one-more (byDirection (consDir info) 0 1) n)
+      ∙ go (peer (byDirection (consDir info) 0 1 + n))
+    where
+      macs : List (List ℕ)
+      macs = macsFrom peer hop (byDirection (consDir info) 0 1) n
+
+      mac : List ℕ
+      mac = macField (hop (byDirection (consDir info) 0 1 + n))
+
+      go : (skip : Bool)
+          → macChainingBeta (segId info) (cond skip macs (macs ++ (mac ∷ [])))
+          ≡ cond skip (macChainingBeta (segId info) macs) (macBetaStep (macChainingBeta (segId info) macs) mac)
+      go true = refl
+      go false = chaining-append (segId info) macs _
 
 -- under which hop m of segment t is checked, and as it is when the path arrives there
-abbrev pub checkedSegId : List ℕ → ℕ → ℕ → ℕ
-checkedSegId path t m = chainedSegId (infoField path t) (hopOf path t) m
+abbrev pub checkedSegId : Edition → List ℕ → ℕ → ℕ → ℕ
+checkedSegId edition path t m = chainedSegId (peeringHopOf edition path t) (infoField path t) (hopOf path t) m
 
-abbrev pub arrivingSegId : List ℕ → ℕ → ℕ → ℕ
-arrivingSegId path t m = byDirection (consDir (infoField path t)) (checkedSegId path t m) (checkedSegId path t (m - 1))
+abbrev pub arrivingSegId : Edition → List ℕ → ℕ → ℕ → ℕ
+arrivingSegId edition path t m =
+    byDirection (consDir (infoField path t)) (checkedSegId edition path t m) (checkedSegId edition path t (m - 1))
 
 -- ---- the place
 
@@ -64,8 +101,21 @@ module _ {path mid : List ℕ} {t m value : ℕ} (s : Stands path mid t m value)
   pub dir-here : consDir (info mid) ≡ consDir (infoField path t)
   dir-here = rw (s .inf) (s .info-same t .dir)
 
+  -- a path stays a peering path, or none, and 28 is answered alike
+  pub peering-path-here : (edition : Edition) → peeringPath edition mid ≡ peeringPath edition path
+  peering-path-here edition = peering-path-kept (s .kept) (λ i l. s .info-same i .peer) edition
+
+  pub fits-here : (edition : Edition) → peeringQuestions edition mid ≡ peeringQuestions edition path
+  fits-here edition = questions-kept (s .kept) (λ i l. s .info-same i .peer) edition
+
+  pub peer-here : (edition : Edition) → isPeeringHop edition mid ≡ peeringHopOf edition path t m
+  peer-here edition = rw (s .hf) (peering-hop-kept (s .kept) (λ i l. s .info-same i .peer) edition (startOf path t + m))
+
+  pub crosses-here : (edition : Edition) → crosses edition mid ≡ firstPeeringHop edition path (startOf path t + m)
+  crosses-here edition = rw (s .hf, peering-path-here edition, s .kept .seg0)
+
 same-info-trans : {first second third : List ℕ} → SameInfo first second → SameInfo second third → SameInfo first third
-same-info-trans p q = record { dir = q .dir ∙ p .dir; start = q .start ∙ p .start }
+same-info-trans p q = record { dir = q .dir ∙ p .dir; start = q .start ∙ p .start; peer = q .peer ∙ p .peer }
 
 -- ---- moves from place to place
 
@@ -109,10 +159,10 @@ module _ {path mid : List ℕ} {t m value : ℕ} (s : Stands path mid t m value)
       }
 
   -- CurrHF and CurrINF set to the next segment's first hop
-  pub segments-on : (n u : ℕ) → n ≡ startOf path u + 0 → n < 64 → t < u → u < infos path
-      → Stands path (setCurrInf (setCurrHf mid n) u) u 0 (checkedSegId path u 0)
+  pub segments-on : (edition : Edition) (n u : ℕ) → n ≡ startOf path u + 0 → n < 64 → t < u → u < infos path
+      → Stands path (setCurrInf (setCurrHf mid n) u) u 0 (checkedSegId edition path u 0)
   unfolding headerSize infos chainedSegId macsFrom macChainingBeta
-  segments-on n u e few up there =
+  segments-on edition n u e few up there =
       let some : 0 < length mid = rw (s .kept .size) (omega (arith, room)) in
       let on = setCurrHf mid n in
       let more : 0 < length on = rw (set-hf-kept mid n .size) some in
@@ -126,53 +176,92 @@ module _ {path mid : List ℕ} {t m value : ℕ} (s : Stands path mid t m value)
         later = λ i l. set-inf-info on u i ∙ set-hf-info mid n i ∙ s .later i (omega arith);
       }
 
-module _ {path mid : List ℕ} {t m : ℕ} (room : headerSize path ≤ length path) (inside : t < infos path) where
+module _ (edition : Edition) {path mid : List ℕ} {t m : ℕ} (room : headerSize path ≤ length path) (inside : t < infos path) where
   -- ingress: the SegID is the one that the hop is checked under
-  pub enters : Stands path mid t m (arrivingSegId path t m) → Quiet (hopOf path t m) → (interface : ℕ)
-      → (m ≡ 0 → interface ≡ 0) → (1 ≤ m → interface ≡ 0 → ⊥)
-      → Stands path (ingressFields mid interface) t m (checkedSegId path t m)
+  pub enters : Stands path mid t m (arrivingSegId edition path t m) → Quiet (hopOf path t m) → (interface : ℕ)
+      → (peeringHopOf edition path t m ≡ false → m ≡ 0 → interface ≡ 0) → (1 ≤ m → interface ≡ 0 → ⊥)
+      → Stands path (ingressFields edition mid interface) t m (checkedSegId edition path t m)
   enters s q interface first later =
       let c = consDir (infoField path t) in
       let here : Quiet (hop mid) = rw (hop-here s) q in
-      let e : cond (not (eqb interface 0) && not c) (macBetaStep (arrivingSegId path t m) (macField (hopOf path t m))) (arrivingSegId path t m)
-      ≡ checkedSegId path t m = value m interface c refl first later in
-      rw (quiet-fields mid (info-among s room inside) here interface, dir-here s, ← e) (steps s room inside (not (eqb interface 0) && not c))
+      let taken = not (eqb interface 0) && (not (peeringHopOf edition path t m) && not c) in
+      let e : cond taken (macBetaStep (arrivingSegId edition path t m) (macField (hopOf path t m))) (arrivingSegId edition path t m)
+      ≡ checkedSegId edition path t m = value m interface c (peeringHopOf edition path t m) refl refl first later in
+      rw (quiet-fields edition mid (info-among s room inside) here interface, dir-here s, peer-here s edition, ← e) (steps s room inside taken)
     where
-      value : (m interface : ℕ) (c : Bool) → consDir (infoField path t) ≡ c → (m ≡ 0 → interface ≡ 0) → (1 ≤ m → interface ≡ 0 → ⊥)
-          → cond (not (eqb interface 0) && not c)
-          (macBetaStep (cond c (checkedSegId path t m) (checkedSegId path t (m - 1))) (macField (hopOf path t m)))
-          (cond c (checkedSegId path t m) (checkedSegId path t (m - 1)))
-          ≡ checkedSegId path t m
-      value m interface true e first later = go (eqb interface 0)
+      value : (m interface : ℕ) (c peer : Bool) → consDir (infoField path t) ≡ c → peeringHopOf edition path t m ≡ peer
+          → (peer ≡ false → m ≡ 0 → interface ≡ 0) → (1 ≤ m → interface ≡ 0 → ⊥)
+          → cond (not (eqb interface 0) && (not peer && not c))
+          (macBetaStep (cond c (checkedSegId edition path t m) (checkedSegId edition path t (m - 1))) (macField (hopOf path t m)))
+          (cond c (checkedSegId edition path t m) (checkedSegId edition path t (m - 1)))
+          ≡ checkedSegId edition path t m
+      value m interface true peer e p first later = go (eqb interface 0) peer
         where
-          go : (local : Bool)
-              → cond (not local && false) (macBetaStep (checkedSegId path t m) (macField (hopOf path t m))) (checkedSegId path t m)
-              ≡ checkedSegId path t m
-          go true = refl
-          go false = refl
-      value zero interface false e first later = rw (eq-eqb interface 0 (first refl))
-      value (suc m) interface false e first later =
+          go : (local peer : Bool)
+              → cond (not local && (not peer && not true))
+              (macBetaStep (checkedSegId edition path t m) (macField (hopOf path t m))) (checkedSegId edition path t m)
+              ≡ checkedSegId edition path t m
+          go true peer = refl
+          go false true = refl
+          go false false = refl
+      value zero interface false false e p first later = rw (eq-eqb interface 0 (first refl refl))
+      value zero interface false true e p first later = rw (and-false (not (eqb interface 0)))
+      value (suc m) interface false false e p first later =
           let less : suc m - 1 ≡ m = omega arith in
           let more : 1 + m ≡ suc m = omega arith in
           rw (ne-eqb interface 0 (later (omega arith)), less)
-          (sym (chain-one-more (infoField path t) (hopOf path t) m ∙ rw (e, more)))
+          (sym (chain-one-more (peeringHopOf edition path t) (hopOf path t) (infoField path t) m ∙ rw (e, more, p)))
+      value (suc m) interface false true e p first later =
+          let less : suc m - 1 ≡ m = omega arith in
+          let more : 1 + m ≡ suc m = omega arith in
+          rw (and-false (not (eqb interface 0)), less)
+          (sym (chain-one-more (peeringHopOf edition path t) (hopOf path t) (infoField path t) m ∙ rw (e, more, p)))
 
-  -- egress: the next hop's arriving SegID
-  pub leaves : Stands path mid t m (checkedSegId path t m) → Quiet (hopOf path t m) → startOf path t + m + 1 < 64
-      → Stands path (egressMove mid) t (m + 1) (arrivingSegId path t (m + 1))
-  leaves s q few =
-      let c = consDir (infoField path t) in
-      let here : Quiet (hop mid) = rw (hop-here s) q in
-      let e : cond c (macBetaStep (checkedSegId path t m) (macField (hopOf path t m))) (checkedSegId path t m)
-      ≡ arrivingSegId path t (m + 1) = value c refl in
-      rw (quiet-egress-move mid (info-among s room inside) here, dir-here s, s .hf, ← e)
-      (hops-on (steps s room inside c) room inside (startOf path t + m + 1) (m + 1) (omega arith) few)
-    where
-      value : (c : Bool) → consDir (infoField path t) ≡ c
-          → cond c (macBetaStep (checkedSegId path t m) (macField (hopOf path t m))) (checkedSegId path t m)
-          ≡ cond c (checkedSegId path t (m + 1)) (checkedSegId path t (m + 1 - 1))
-      value true e =
-          let more : m + 1 ≡ suc m = omega arith in
-          let none : 0 + m ≡ m = omega arith in
-          rw more (sym (chain-one-more (infoField path t) (hopOf path t) m ∙ rw (e, none)))
-      value false e = let less : m + 1 - 1 ≡ m = omega arith in rw less
+  -- egress inside the segment: the next hop's arriving SegID
+  module _ (s : Stands path mid t m (checkedSegId edition path t m)) (q : Quiet (hopOf path t m)) where
+    quiet-there : Quiet (hop mid)
+    quiet-there = rw (hop-here s) q
+
+    pub leaves : firstPeeringHop edition path (startOf path t + m) ≡ false → startOf path t + m + 1 < 64
+        → Stands path (egressMove edition mid) t (m + 1) (arrivingSegId edition path t (m + 1))
+    leaves stays few =
+        let c = consDir (infoField path t) in
+        let e : cond (not (peeringHopOf edition path t m) && c) (macBetaStep (checkedSegId edition path t m) (macField (hopOf path t m)))
+        (checkedSegId edition path t m)
+        ≡ arrivingSegId edition path t (m + 1) = value c (peeringHopOf edition path t m) refl refl in
+        rw (quiet-egress-move edition mid (info-among s room inside) quiet-there, crosses-here s edition, stays)
+        (rw (peer-here s edition, dir-here s, s .hf, ← e)
+        (hops-on (steps s room inside (not (peeringHopOf edition path t m) && c)) room inside (startOf path t + m + 1) (m + 1)
+        (omega arith) few))
+      where
+        value : (c peer : Bool) → consDir (infoField path t) ≡ c → peeringHopOf edition path t m ≡ peer
+            → cond (not peer && c) (macBetaStep (checkedSegId edition path t m) (macField (hopOf path t m))) (checkedSegId edition path t m)
+            ≡ cond c (checkedSegId edition path t (m + 1)) (checkedSegId edition path t (m + 1 - 1))
+        value true peer e p =
+            let more : m + 1 ≡ suc m = omega arith in
+            let none : 0 + m ≡ m = omega arith in
+            rw more (go peer ∙ sym (chain-one-more (peeringHopOf edition path t) (hopOf path t) (infoField path t) m ∙ rw (e, none, p)))
+          where
+            go : (peer : Bool)
+                → cond (not peer && true) (macBetaStep (checkedSegId edition path t m) (macField (hopOf path t m)))
+                (checkedSegId edition path t m)
+                ≡ cond peer (checkedSegId edition path t m) (macBetaStep (checkedSegId edition path t m) (macField (hopOf path t m)))
+            go true = refl
+            go false = refl
+        value false peer e p = let less : m + 1 - 1 ≡ m = omega arith in rw (less, and-false (not peer))
+
+    -- egress over the peering link: the next segment's first hop, with its SegID as given
+    pub leaves-over : firstPeeringHop edition path (startOf path t + m) ≡ true → startOf path t + m + 1 < 64
+        → startOf path t + m + 1 ≡ startOf path (t + 1) + 0 → t + 1 < infos path
+        → Stands path (egressMove edition mid) (t + 1) 0 (arrivingSegId edition path (t + 1) 0)
+    leaves-over crossing few next there =
+        let e : checkedSegId edition path (t + 1) 0 ≡ arrivingSegId edition path (t + 1) 0 = value (consDir (infoField path (t + 1))) in
+        rw (quiet-egress-move edition mid (info-among s room inside) quiet-there, crosses-here s edition, crossing)
+        (rw (peer-here s edition, dir-here s, s .hf, s .inf, ← e)
+        (segments-on (steps s room inside (not (peeringHopOf edition path t m) && consDir (infoField path t))) room inside edition
+        (startOf path t + m + 1) (t + 1) next few (omega arith) there))
+      where
+        value : (c : Bool)
+            → checkedSegId edition path (t + 1) 0 ≡ cond c (checkedSegId edition path (t + 1) 0) (checkedSegId edition path (t + 1) 0)
+        value true = refl
+        value false = refl

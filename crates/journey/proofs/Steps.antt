@@ -3,7 +3,7 @@
 use mathlib.Core.Path.{_≡_, refl, ap, sym, subst, _∙_}
 use mathlib.Core.Bool.{true, false}
 use mathlib.Core.List.{List, [], _∷_, _++_}
-use Prim.Native.Nat.{ℕ, _+_, _≤_, _<_}
+use Prim.Native.Nat.{ℕ, zero, suc, _+_, _≤_, _<_}
 use native.Mathlib.Omega.{arith}
 use borrow.Author.Tests.{le-leb}
 use lib.ListN.{length}
@@ -22,9 +22,11 @@ use Rattle.validator.specs.declared.answer.StepAnswer.{StepAnswer}
 use Rattle.validator.specs.declared.answer.StepAnswer.the-variants.{Action, Refused}
 use Rattle.validator.proofs.Asked.{both-yes, none-asked}
 use Rattle.routing.specs.Outcome.{Outcome, asks}
+use Rattle.edition.specs.declared.Edition.{Edition}
+use Rattle.edition.specs.Edition.{peeringPath}
 use Rattle.routing.specs.Place.{before}
 use Rattle.routing.specs.Ingress.{hop, info, nextHop, nextInfo, ingressSegId, ingressFields, ingressMove, alertsAtIngress, ingressQuestions}
-use Rattle.routing.specs.Egress.{egressAction, egressMove}
+use Rattle.routing.specs.Egress.{leavingAction, egressAction, egressMove}
 use Rattle.routing.specs.Step.{keyMac, atIngress, leavingQuestions}
 use Rattle.routing.proofs.Touched.{ingress-fields-moved}
 use Rattle.routing.proofs.Inside.{insideQuestions}
@@ -34,7 +36,7 @@ use Rattle.journey.specs.Check.{startOf, countOf, hopOf, chainedSegId, m
 use Rattle.journey.specs.Journey.{stepAt}
 use Rattle.journey.proofs.Quiet.{Quiet, quiet-ingress, quiet-egress}
 use Rattle.journey.proofs.Stands.{Stands, checkedSegId, arrivingSegId, hop-here, dir-here, info-among, info-room, enters, segments-on}
-use Rattle.journey.proofs.Hops.{Hop, middle, last, joint, placed, inside-middle, in-header, next-in-header, start-next, before-end}
+use Rattle.journey.proofs.Hops.{Hop, Onward, middle, last, joint, placed, inside-onward, in-header, next-in-header, start-next, before-end}
 
 -- what 2, 3, 4 and 25 let through
 pub record Given (path : List ℕ) : Type 0 where
@@ -42,11 +44,15 @@ pub record Given (path : List ℕ) : Type 0 where
   pub few : hops path ≤ 64
   pub quiet : (j : ℕ) → j < hops path → Quiet (hopField path j)
 
--- a station whose table is sound, reached at hop m of segment t: the first from local hosts, at hop 0; the others from outside
-pub record Reached (station : Station) (m : ℕ) : Type 0 where
+-- a station whose table is sound, reached at hop j: the first from local hosts, at hop 0; the others from outside
+pub record Reached (station : Station) (j : ℕ) : Type 0 where
   pub sound : tableSound (station .ids) (station .states) ≡ true
-  pub local : m ≡ 0 → station .arrival ≡ 0
-  pub outside : 1 ≤ m → station .arrival ≡ 0 → ⊥
+  pub local : j ≡ 0 → station .arrival ≡ 0
+  pub outside : 1 ≤ j → station .arrival ≡ 0 → ⊥
+
+at-first : (path : List ℕ) (t m : ℕ) → t ≡ 0 → m ≡ 0 → startOf path t + m ≡ 0
+at-first path zero m z e = omega arith
+at-first path (suc t) m z e = absurd (omega arith)
 
 -- 1 to 4 are answered yes all the way
 pub before-asked : {path mid : List ℕ} (ids states : List ℕ) → Given path → Kept path mid → tableSound ids states ≡ true
@@ -59,10 +65,10 @@ before-asked {path} ids states g kept sound =
     (both-yes _ _ _ (rw (hops-kept kept) (le-leb _ _ (g .few))) none-asked)))
 
 -- 9 to 12 of hop m of segment t
-abbrev pub hopTests : List ℕ → Station → ℕ → ℕ → ℕ → Questions
-hopTests path station reading t m =
+abbrev pub hopTests : Edition → List ℕ → Station → ℕ → ℕ → ℕ → Questions
+hopTests edition path station reading t m =
     hopQuestions (keyMac (station .key)) (atIngress (station .arrival) reading false) (startOf path t + m) (hopOf path t m)
-    (infoField path t) (checkedSegId path t m)
+    (infoField path t) (checkedSegId edition path t m)
 
 -- 14 to 16 from hop m of segment t to the next segment's first
 abbrev pub linkTests : List ℕ → Station → ℕ → ℕ → Questions
@@ -88,18 +94,18 @@ leavingTests path station t m after =
     leavingQuestions (stateOf (station .ids) (station .states) (wayOf path t m)) (wayOf path t m) after
 
 -- the path after ingress, and behind a segment change
-abbrev pub enteredAt : List ℕ → Station → List ℕ
-enteredAt mid station = ingressFields mid (station .arrival)
+abbrev pub enteredAt : Edition → List ℕ → Station → List ℕ
+enteredAt edition mid station = ingressFields edition mid (station .arrival)
 
-abbrev pub crossedAt : List ℕ → Station → List ℕ
-crossedAt mid station = setCurrInf (setCurrHf (enteredAt mid station) (currHf mid + 1)) (currInf mid + 1)
+abbrev pub crossedAt : Edition → List ℕ → Station → List ℕ
+crossedAt edition mid station = setCurrInf (setCurrHf (enteredAt edition mid station) (currHf mid + 1)) (currInf mid + 1)
 
 -- on the way out from hop m of segment t: forwarded; then with what is left to ask at egress, and with 15 and 17
-abbrev pub forwarded : List ℕ → ℕ → ℕ → List ℕ → Outcome StepAnswer
-forwarded path t m left = record { answer = Action (ForwardNextHop (wayOf path t m)); bytes = egressMove left }
+abbrev pub forwarded : Edition → List ℕ → ℕ → ℕ → List ℕ → Outcome StepAnswer
+forwarded edition path t m left = record { answer = Action (ForwardNextHop (wayOf path t m)); bytes = egressMove edition left }
 
-abbrev pub insideThen : List ℕ → Outcome StepAnswer → Outcome StepAnswer
-insideThen left more = asks Refused (firstNo (insideQuestions left)) left more
+abbrev pub insideThen : Edition → List ℕ → Outcome StepAnswer → Outcome StepAnswer
+insideThen edition left more = asks Refused (firstNo (insideQuestions edition left)) left more
 
 abbrev pub leavingThen : List ℕ → Station → ℕ → ℕ → List ℕ → Outcome StepAnswer → Outcome StepAnswer
 leavingThen path station t m left more = asks Refused (firstNo (leavingTests path station t m left)) left more
@@ -107,27 +113,30 @@ leavingThen path station t m left more = asks Refused (firstNo (leavingTests pat
 -- a path that stands at a hop without alerts is forwarded
 goes-out : {path mid : List ℕ} {t m value : ℕ} → Stands path mid t m value → Quiet (hopOf path t m)
     → egressAction mid ≡ Action (ForwardNextHop (wayOf path t m))
-unfolding egressAction
+unfolding leavingAction
 goes-out {path} {t = t} s q = rw (hop-here s, dir-here s, quiet-egress q (consDir (infoField path t)))
 
 -- all that is checked at a segment change
-abbrev pub changeTests : List ℕ → Station → ℕ → ℕ → ℕ → Questions
-changeTests path station reading t m =
-    hopTests path station reading t m ++ (linkTests path station t m ++ hopTests path station reading (t + 1) 0)
+abbrev pub changeTests : Edition → List ℕ → Station → ℕ → ℕ → ℕ → Questions
+changeTests edition path station reading t m =
+    hopTests edition path station reading t m ++ (linkTests path station t m ++ hopTests edition path station reading (t + 1) 0)
 
-module _ {path mid : List ℕ} {t m : ℕ} (g : Given path) (s : Stands path mid t m (arrivingSegId path t m)) (h : Hop path t m)
-    {station : Station} (r : Reached station m) (reading : ℕ) where
+module _ {edition : Edition} {path mid : List ℕ} {t m : ℕ} (g : Given path) (s : Stands path mid t m (arrivingSegId edition path t m))
+    (h : Hop edition path t m)
+    {station : Station} (r : Reached station (startOf path t + m)) (reading : ℕ) where
   pub inside : t < infos path
   inside = in-header path t (h .third) (h .long)
 
   abbrev after : List ℕ
-  after = enteredAt mid station
+  after = enteredAt edition mid station
 
   pub quiet-here : Quiet (hopOf path t m)
   quiet-here = g .quiet (startOf path t + m) (omega (arith, before-end path t (h .third), h .within))
 
-  pub stands-after : Stands path after t m (checkedSegId path t m)
-  stands-after = enters (g .room) inside s quiet-here (station .arrival) (r .local) (r .outside)
+  pub stands-after : Stands path after t m (checkedSegId edition path t m)
+  stands-after =
+      enters edition (g .room) inside s quiet-here (station .arrival) (λ p z. r .local (at-first path t m (h .back p z) z))
+      (λ l. r .outside (omega arith))
 
   before-valid : firstNo (before (station .ids) (station .states) mid) ≡ Valid
   before-valid = before-asked (station .ids) (station .states) g (s .kept) (r .sound)
@@ -135,47 +144,54 @@ module _ {path mid : List ℕ} {t m : ℕ} (g : Given path) (s : Stands path mid
   start-here : timestamp (info mid) ≡ timestamp (infoField path t)
   start-here = rw (s .inf) (s .info-same t .start)
 
-  seg-here : ingressSegId mid (station .arrival) ≡ checkedSegId path t m
+  seg-here : ingressSegId edition mid (station .arrival) ≡ checkedSegId edition path t m
   seg-here =
-      sym (ingress-fields-moved mid (info-among s (g .room) inside) (station .arrival) (info-room s (g .room) inside) .seg)
+      sym (ingress-fields-moved mid (info-among s (g .room) inside) edition (station .arrival) (info-room s (g .room) inside) .seg)
       ∙ ap (λ (i : ℕ). segId (infoField after i)) (s .inf) ∙ stands-after .seg
 
   hop-asked : hopQuestions (keyMac (station .key)) (atIngress (station .arrival) reading false) (currHf mid) (hop mid) (info mid)
-      (ingressSegId mid (station .arrival))
-      ≡ hopTests path station reading t m
+      (ingressSegId edition mid (station .arrival))
+      ≡ hopTests edition path station reading t m
   hop-asked = rw (seg-here, hop-here s, dir-here s, start-here, s .hf)
 
   no-alert : alertsAtIngress mid (station .arrival) ≡ false
   no-alert = rw (hop-here s, quiet-ingress quiet-here (consDir (info mid)))
 
-  -- ---- in the middle of a segment
+  -- ---- where the next hop lies in the segment, or over the peering link
 
-  module _ (more : m + 1 < countOf path t) where
-    pub middle-step : stepAt station reading mid
-        ≡ asks Refused (firstNo (hopTests path station reading t m)) after (leavingThen path station t m after (forwarded path t m after))
+  module _ (more : Onward edition path t m) where
+    pub middle-step : stepAt edition station reading mid
+        ≡ asks Refused (firstNo (hopTests edition path station reading t m)) after
+        (leavingThen path station t m after (forwarded edition path t m after))
     unfolding stepAt ingressMove
     middle-step =
         let p = placed s h (middle more) in
-        step-asks (station .ids) (station .states) (keyMac (station .key)) (station .arrival) reading false mid
+        step-asks edition (station .ids) (station .states) (keyMac (station .key)) (station .arrival) reading false mid
         ∙ rw (before-valid, p .valid, p .changing, p .ending, no-alert)
-        (rw (hop-asked, inside-middle stands-after h more, goes-out stands-after quiet-here, hop-here s, dir-here s))
+        (rw (
+          hop-asked,
+          inside-onward edition stands-after (h .third) (h .within) more,
+          goes-out stands-after quiet-here,
+          hop-here s,
+          dir-here s,
+        ))
 
   -- ---- the last hop of the path
 
   pub last-step : m + 1 ≡ countOf path t → startOf path t + m + 1 ≡ hops path
-      → stepAt station reading mid
-      ≡ asks Refused (firstNo (hopTests path station reading t m)) after (record { answer = Action (Local ForwardLocal); bytes = after })
+      → stepAt edition station reading mid
+      ≡ asks Refused (firstNo (hopTests edition path station reading t m)) after (record { answer = Action (Local ForwardLocal); bytes = after })
   unfolding stepAt ingressMove
   last-step e f =
       let p = placed s h (last e f) in
-      step-asks (station .ids) (station .states) (keyMac (station .key)) (station .arrival) reading false mid
+      step-asks edition (station .ids) (station .states) (keyMac (station .key)) (station .arrival) reading false mid
       ∙ rw (before-valid, p .valid, p .changing, p .ending, no-alert) (rw hop-asked)
 
   -- ---- a segment change
 
-  module _ (e : m + 1 ≡ countOf path t) (f : startOf path t + m + 1 < hops path) where
+  module _ (plain : peeringPath edition path ≡ false) (e : m + 1 ≡ countOf path t) (f : startOf path t + m + 1 < hops path) where
     abbrev crossed : List ℕ
-    crossed = crossedAt mid station
+    crossed = crossedAt edition mid station
 
     pub behind : (t < 2) × (t + 1 < infos path)
     behind = next-in-header path t (h .third) (h .long) (omega arith)
@@ -189,34 +205,34 @@ module _ {path mid : List ℕ} {t m : ℕ} (g : Given path) (s : Stands path mid
     next-info : nextInfo mid ≡ infoField path (t + 1)
     next-info = rw (s .inf) (s .later (t + 1) (omega arith))
 
-    next-seg : segId (infoField path (t + 1)) ≡ checkedSegId path (t + 1) 0
+    next-seg : segId (infoField path (t + 1)) ≡ checkedSegId edition path (t + 1) 0
     unfolding chainedSegId macsFrom macChainingBeta
     next-seg = refl
 
     pub quiet-next : Quiet (hopOf path (t + 1) 0)
     quiet-next = g .quiet (startOf path (t + 1) + 0) (omega (arith, start-next path t (behind .0)))
 
-    pub stands-crossed : Stands path crossed (t + 1) 0 (checkedSegId path (t + 1) 0)
+    pub stands-crossed : Stands path crossed (t + 1) 0 (checkedSegId edition path (t + 1) 0)
     stands-crossed =
         let few : currHf mid + 1 < 64 = omega (arith, s .hf, g .few) in
-        subst (λ (u : ℕ). Stands path (setCurrInf (setCurrHf after (currHf mid + 1)) u) (t + 1) 0 (checkedSegId path (t + 1) 0))
+        subst (λ (u : ℕ). Stands path (setCurrInf (setCurrHf after (currHf mid + 1)) u) (t + 1) 0 (checkedSegId edition path (t + 1) 0))
         (ap (λ (u : ℕ). u + 1) (sym (s .inf)))
-        (segments-on stands-after (g .room) inside (currHf mid + 1) (t + 1) next-index few (omega arith) (behind .1))
+        (segments-on stands-after (g .room) inside edition (currHf mid + 1) (t + 1) next-index few (omega arith) (behind .1))
 
     change-asked : firstNo
-        (ingressQuestions (station .ids) (station .states) (keyMac (station .key)) (atIngress (station .arrival) reading false) mid true)
-        ≡ firstNo (changeTests path station reading t m)
+        (ingressQuestions edition (station .ids) (station .states) (keyMac (station .key)) (atIngress (station .arrival) reading false) mid true)
+        ≡ firstNo (changeTests edition path station reading t m)
     change-asked =
         rw (seg-here, hop-here s, dir-here s, start-here, next-hop, next-info, next-index, next-seg, s .hf)
         (rw (quiet-egress quiet-here (consDir (infoField path t)), quiet-ingress quiet-next (consDir (infoField path (t + 1))))
-        (without-yes (hopTests path station reading t m) _ _ ∙ without-yes (hopTests path station reading t m) _ _))
+        (without-yes (hopTests edition path station reading t m) _ _ ∙ without-yes (hopTests edition path station reading t m) _ _))
 
-    pub joint-step : stepAt station reading mid
-        ≡ asks Refused (firstNo (changeTests path station reading t m)) crossed
-        (leavingThen path station (t + 1) 0 crossed (insideThen crossed (forwarded path (t + 1) 0 crossed)))
+    pub joint-step : stepAt edition station reading mid
+        ≡ asks Refused (firstNo (changeTests edition path station reading t m)) crossed
+        (leavingThen path station (t + 1) 0 crossed (insideThen edition crossed (forwarded edition path (t + 1) 0 crossed)))
     unfolding stepAt ingressMove
     joint-step =
-        let p = placed s h (joint e f) in
-        step-asks (station .ids) (station .states) (keyMac (station .key)) (station .arrival) reading false mid
+        let p = placed s h (joint plain e f) in
+        step-asks edition (station .ids) (station .states) (keyMac (station .key)) (station .arrival) reading false mid
         ∙ rw (before-valid, p .valid, p .changing, p .ending, no-alert)
         (rw (change-asked, goes-out stands-crossed quiet-next, next-hop, next-info))

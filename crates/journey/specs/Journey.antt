@@ -14,6 +14,7 @@ use Rattle.validator.specs.declared.answer.StepAnswer.{StepAnswer}
 use Rattle.validator.specs.declared.answer.StepAnswer.the-variants.{Action, Refused}
 use Rattle.routing.specs.Outcome.{Outcome}
 use Rattle.routing.specs.Step.{keyMac, step}
+use Rattle.edition.specs.declared.Edition.{Edition}
 use Rattle.itinerary.specs.Layout.{Layout}
 use Rattle.itinerary.specs.Itinerary.{Station, stations}
 use Rattle.journey.specs.declared.answer.Verdict.{Verdict}
@@ -22,9 +23,9 @@ use Rattle.journey.specs.Verdict.{questions, letThrough}
 
 -- 'the whole step on these bytes with that station's table, key, arrival interface and reading, MACs not ignored':
 -- the definition that the contract of `handle_standard_path` cites
-unfoldable pub stepAt : Station → ℕ → List ℕ → Outcome StepAnswer
-stepAt station reading path =
-    step (station .ids) (station .states) (keyMac (station .key)) (station .arrival) reading false path
+unfoldable pub stepAt : Edition → Station → ℕ → List ℕ → Outcome StepAnswer
+stepAt edition station reading path =
+    step edition (station .ids) (station .states) (keyMac (station .key)) (station .arrival) reading false path
 
 -- where a journey ended: the station, counted from 0, what it answered, and the bytes left. Nowhere, if there was no station to go to
 pub data Ended : Type 0 where
@@ -48,12 +49,12 @@ orEnds true k outcome rest = rest
 orEnds false k outcome rest = endedAt k (outcome .answer) (outcome .bytes)
 
 -- the journey from station number k on, with the stations left and a clock reading for each
-unfoldable pub journey : ℕ → List Station → List ℕ → List ℕ → Ended
-journey k [] readings path = nowhere
-journey k (station ∷ stations) [] path = nowhere
-journey k (station ∷ stations) (reading ∷ readings) path =
-    let outcome = stepAt station reading path in
-    orEnds (goesOn (outcome .answer) && someLeft stations) k outcome (journey (suc k) stations readings (outcome .bytes))
+unfoldable pub journey : Edition → ℕ → List Station → List ℕ → List ℕ → Ended
+journey edition k [] readings path = nowhere
+journey edition k (station ∷ stations) [] path = nowhere
+journey edition k (station ∷ stations) (reading ∷ readings) path =
+    let outcome = stepAt edition station reading path in
+    orEnds (goesOn (outcome .answer) && someLeft stations) k outcome (journey edition (suc k) stations readings (outcome .bytes))
 
 unfoldable pub delivers : StepAnswer → Bool
 delivers (Action (ForwardNextHop interface)) = false
@@ -67,8 +68,8 @@ unfoldable pub endedWell : ℕ → Ended → Bool
 endedWell count nowhere = false
 endedWell count (endedAt k answer left) = eqb (suc k) count && delivers answer
 
-unfoldable pub arrives : List Station → List ℕ → List ℕ → Bool
-arrives stations readings path = endedWell (length stations) (journey 0 stations readings path)
+unfoldable pub arrives : Edition → List Station → List ℕ → List ℕ → Bool
+arrives edition stations readings path = endedWell (length stations) (journey edition 0 stations readings path)
 
 -- 'a list of clock readings, one for each station, each from earliest to latest, both included'
 pub record Readings (stations : List Station) (earliest latest : ℕ) (readings : List ℕ) : Type 0 where
@@ -77,13 +78,13 @@ pub record Readings (stations : List Station) (earliest latest : ℕ) (readings 
   pub before : (k : ℕ) → k < length readings → getD readings k 0 ≤ latest
 
 -- 'The path travels if it arrives for every such list.'
-unfoldable pub Travels : List Station → ℕ → ℕ → List ℕ → Type 0
-Travels stations earliest latest path =
-    (readings : List ℕ) → Readings stations earliest latest readings → arrives stations readings path ≡ true
+unfoldable pub Travels : Edition → List Station → ℕ → ℕ → List ℕ → Type 0
+Travels edition stations earliest latest path =
+    (readings : List ℕ) → Readings stations earliest latest readings → arrives edition stations readings path ≡ true
 
 -- Demand 3, of a verdict: for each call that 2 to 4 and 23 to 25 let through it is passed exactly if the path travels.
 -- The check's definition, `journeyCheck`, meets it: `demand-3` in proofs/Demand3.antt. So does the check's code, by its contract.
-unfoldable pub Demand3 : Layout → List ℕ → ℕ → ℕ → List ℕ → Verdict → Type 0
-Demand3 layout itinerary earliest latest path verdict =
-    letThrough (questions layout itinerary earliest latest path) ≡ true
-    → (verdict ≡ Passed) ↔ Travels (stations layout itinerary) earliest latest path
+unfoldable pub Demand3 : Edition → Layout → List ℕ → ℕ → ℕ → List ℕ → Verdict → Type 0
+Demand3 edition layout itinerary earliest latest path verdict =
+    letThrough (questions edition layout itinerary earliest latest path) ≡ true
+    → (verdict ≡ Passed) ↔ Travels edition (stations layout itinerary) earliest latest path

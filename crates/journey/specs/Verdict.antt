@@ -6,6 +6,8 @@ use mathlib.Core.List.{List, [], _∷_}
 use lib.Dec.{eqb, leb}
 use Rattle.standard_path.specs.Fields.{currInf, currHf, consIngressAlert, consEgressAlert}
 use Rattle.standard_path.specs.Header.{infos, hops, hopField, metaThere, fieldsThere, hopsFew}
+use Rattle.edition.specs.declared.Edition.{Edition}
+use Rattle.edition.specs.Edition.{peeringPath}
 use Rattle.itinerary.specs.Layout.{Layout}
 use Rattle.itinerary.specs.Itinerary.{stations, itineraryFits}
 use Rattle.journey.specs.declared.answer.JourneyError.{JourneyError}
@@ -22,9 +24,9 @@ journeyNumber UnfitItinerary = 23
 journeyNumber NotAtStart = 24
 journeyNumber AlertSet = 25
 
--- 'station count = hops − infos + 1'
-abbrev pub stationCount : List ℕ → ℕ
-stationCount path = hops path - infos path + 1
+-- 'station count = hops − infos + 1'; F-6: 'a peering path has as many stations as hops'
+abbrev pub stationCount : Edition → List ℕ → ℕ
+stationCount edition path = cond (peeringPath edition path) (hops path) (hops path - infos path + 1)
 
 -- 'No alert bit in a hop?'
 unfoldable pub quiet : List ℕ → Bool
@@ -34,12 +36,12 @@ abbrev pub Question : Type 0
 Question = Bool × JourneyError
 
 -- 2, 3, 4, then 23, 24, 25
-abbrev pub questions : Layout → List ℕ → ℕ → ℕ → List ℕ → List Question
-questions layout itinerary earliest latest path =
+abbrev pub questions : Edition → Layout → List ℕ → ℕ → ℕ → List ℕ → List Question
+questions edition layout itinerary earliest latest path =
     (metaThere path, MetaTooShort)
     ∷ (fieldsThere path, DataTooShort)
     ∷ (hopsFew path, TooManyHops)
-    ∷ (itineraryFits layout itinerary (stationCount path) && leb earliest latest, UnfitItinerary)
+    ∷ (itineraryFits layout itinerary (stationCount edition path) && leb earliest latest, UnfitItinerary)
     ∷ (eqb (currHf path) 0 && eqb (currInf path) 0, NotAtStart)
     ∷ (quiet path, AlertSet)
     ∷ []
@@ -49,10 +51,10 @@ unfoldable pub firstNo : List Question → Verdict → Verdict
 firstNo [] verdict = verdict
 firstNo (question ∷ more) verdict = cond (question .0) (firstNo more verdict) (Refused (question .1))
 
-unfoldable pub journeyCheck : Layout → List ℕ → ℕ → ℕ → List ℕ → Verdict
-journeyCheck layout itinerary earliest latest path =
-    firstNo (questions layout itinerary earliest latest path)
-    (cond (passes (stations layout itinerary) earliest latest path) Passed NotPassed)
+unfoldable pub journeyCheck : Edition → Layout → List ℕ → ℕ → ℕ → List ℕ → Verdict
+journeyCheck edition layout itinerary earliest latest path =
+    firstNo (questions edition layout itinerary earliest latest path)
+    (cond (passes edition (stations layout itinerary) earliest latest path) Passed NotPassed)
 
 -- 'for each call of the check that 2 to 4 and 23 to 25 let through'
 unfoldable pub letThrough : List Question → Bool

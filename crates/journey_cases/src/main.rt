@@ -9,12 +9,13 @@
 //   edit path AT BYTES           other bytes in the path
 //   edit itinerary AT BYTES      other bytes in the itinerary
 //   case EARLIEST LATEST LABEL   runs the check
-mod buffer;
 mod print;
-mod words;
 
+use edition::Edition;
 use journey_check::questions;
 use libc::STDIN_FILENO;
+use script::buffer;
+use script::words;
 
 // How many bytes of each buffer are in use.
 struct Sizes {
@@ -24,40 +25,20 @@ struct Sizes {
     kept_itinerary: u32,
 }
 
-fn put_path(line: &[u8], path: &mut [u8]) {
-    buffer::clear(path);
-    words::put_bytes(line, words::third(line), path, 0);
-}
-
-fn put_record(line: &[u8], itinerary: &mut [u8]) {
-    let index = words::number(line, words::second(line)) % 2048;
-    words::put_bytes(line, words::third(line), itinerary, 32 * index);
-}
-
-fn edit(line: &[u8], path: &mut [u8], itinerary: &mut [u8]) {
-    let at = words::number(line, words::third(line));
-    let start = words::fourth(line);
-    if octets::byte_at(line, words::second(line)) == b'p' {
-        words::put_bytes(line, start, path, at);
-    } else {
-        words::put_bytes(line, start, itinerary, at);
-    }
-}
-
 // The lines that say what a case is about.
 fn set_up(line: &[u8], path: &mut [u8], itinerary: &mut [u8], sizes: Sizes) -> Sizes {
     let mut after = sizes;
     match octets::byte_at(line, 0) {
         b'p' => {
-            put_path(line, path);
+            buffer::put_path(line, path);
             after.path = words::number(line, words::second(line));
         }
         b'i' => {
             buffer::clear(itinerary);
             after.itinerary = words::number(line, words::second(line));
         }
-        b'r' => put_record(line, itinerary),
-        b'e' => edit(line, path, itinerary),
+        b'r' => buffer::put_record(line, itinerary),
+        b'e' => buffer::edit(line, path, itinerary),
         _ => {}
     }
     after
@@ -68,7 +49,7 @@ fn run_case(line: &[u8], path: &[u8], itinerary: &[u8]) {
     let latest = words::number(line, words::third(line));
     let label = words::fourth(line);
     print::put(&line[label..]);
-    print::put_verdict(questions::check_journey(path, itinerary, earliest, latest));
+    print::put_verdict(questions::check_journey(Edition::First, path, itinerary, earliest, latest));
 }
 
 fn run_line(

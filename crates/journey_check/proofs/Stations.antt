@@ -1,7 +1,7 @@
 -- Where the lengths fit and the stations are as many as 23 counts, what is asked of the stations is asked of their records.
 -- Assumes nothing.
 use mathlib.Core.Path.{_≡_, refl, ap, sym, _∙_}
-use mathlib.Core.Bool.{Bool, true, false, cond, _&&_}
+use mathlib.Core.Bool.{Bool, true, false, cond, _&&_, false≢true}
 use mathlib.Core.List.{List, [], _∷_}
 use Prim.Native.Nat.{ℕ, zero, suc, _+_, _-_, _≤_, _<_}
 use native.Mathlib.Omega.{arith}
@@ -10,13 +10,17 @@ use lib.Dec.{eqb, leb}
 use lib.ListN.{length, getD}
 use Rattle.octets.proofs.Bools.{each-of-4}
 use Rattle.standard_path.specs.Fields.{timestamp}
-use Rattle.standard_path.specs.Header.{infos, infoField}
+use Rattle.standard_path.specs.Header.{infos, hops, infoField}
+use Rattle.edition.specs.declared.Edition.{Edition}
+use Rattle.edition.specs.Edition.{peeringPath}
 use Rattle.itinerary.specs.Layout.{Layout}
 use Rattle.itinerary.specs.Records.{recordCount, nextOf, keyOf, firstStation, chain}
 use Rattle.itinerary.specs.Itinerary.{stationRecords, stationWithin, stationAt, stations, soundWithin, fitsWithin, itineraryFits}
 use Rattle.itinerary.proofs.Stations.{count-by-records, next-record, station-from-record}
-use Rattle.journey.specs.Check.{segmentFits, jointFits, startOf, countOf, hopOf, noStation, stationOf, segmentPasses, jointPasses}
+use Rattle.journey.specs.Check.{segmentFits, linkFits, jointFits, peeringHopOf, shared, startOf, countOf, hopOf, noStation, stationOf, segmentPasses, jointPasses}
 use Rattle.journey.proofs.Lengths.{Shape, all-long, station-among, start-enough, fit-shape}
+use Rattle.journey.proofs.Facts.{shared-linked}
+use Rattle.journey.proofs.LetThrough.{infos-few}
 use Rattle.journey_check.specs.Records.{recordAfter}
 use Rattle.journey_check.specs.Matched.{Matched}
 use Rattle.journey_check.proofs.All.{all-same}
@@ -58,47 +62,78 @@ module _ (layout : Layout) (itinerary : List ℕ) where
       let short = chain-short limit first in
       rw (e, next-record layout itinerary limit first (place + m) (omega arith) (omega arith), record-after place m (omega arith))
 
-  module _ (path : List ℕ) (matched : Matched layout itinerary path) where
-    shape : Shape path
-    shape = fit-shape path (matched .fit)
+  module _ (edition : Edition) (path : List ℕ) (matched : Matched edition layout itinerary path) where
+    shape : Shape edition path
+    shape = fit-shape edition path (matched .fit)
 
-    -- no segment starts before its number
-    pub starts-behind : (s : ℕ) → s < infos path → s ≤ startOf path s
+    -- no segment starts before the stations that it shares
+    pub starts-behind : (s : ℕ) → s < infos path → shared edition path s ≤ startOf path s
     starts-behind s h = start-enough shape s h
 
-    pub some-hops : (s : ℕ) → s < infos path → 2 ≤ countOf path s
+    pub some-hops : (s : ℕ) → s < infos path → 1 ≤ countOf path s
     some-hops s h = all-long shape s h
 
+    counts : (peer : Bool) {n : ℕ} → n ≡ cond peer (hops path) (hops path - infos path + 1) → n + cond peer 1 (infos path) ≡ hops path + 1
+    counts true e = omega arith
+    counts false e = omega (arith, infos-few path)
+
     -- each hop has a station
-    among : (s m : ℕ) → s < infos path → m < countOf path s → startOf path s - s + m < length records
+    among : (s m : ℕ) → s < infos path → m < countOf path s → startOf path s - shared edition path s + m < length records
     among s m h w =
         let there = station-among shape s m h w in
         let limit = recordCount layout itinerary in
-        let many = sym (count-by-records layout itinerary limit limit) ∙ matched .counted in
+        let many = counts (peeringPath edition path) (sym (count-by-records layout itinerary limit limit) ∙ matched .counted) in
         omega (arith, there, starts-behind s h, many)
 
-    station-read : (s m : ℕ) → s < infos path → m < countOf path s
-        → stationOf (stations layout itinerary) path s m
-        ≡ stationAt layout itinerary (recordAfter layout itinerary (getD records (startOf path s - s) 0) m)
+    pub station-read : (s m : ℕ) → s < infos path → m < countOf path s
+        → stationOf edition (stations layout itinerary) path s m
+        ≡ stationAt layout itinerary (recordAfter layout itinerary (getD records (startOf path s - shared edition path s) 0) m)
     station-read s m h w =
-        station-from-record layout itinerary (recordCount layout itinerary) (recordCount layout itinerary) (startOf path s - s + m)
-        noStation (among s m h w)
-        ∙ ap (stationAt layout itinerary) (record-after (startOf path s - s) m (among s m h w))
+        station-from-record layout itinerary (recordCount layout itinerary) (recordCount layout itinerary)
+        (startOf path s - shared edition path s + m) noStation (among s m h w)
+        ∙ ap (stationAt layout itinerary) (record-after (startOf path s - shared edition path s) m (among s m h w))
 
-    pub segment-read : (earliest latest s : ℕ) → s < infos path → {first : ℕ} → first ≡ getD records (startOf path s - s) 0
-        → segmentFits (λ m. stationAt layout itinerary (recordAfter layout itinerary first m)) earliest latest (infoField path s)
-        (hopOf path s) (countOf path s)
-        ≡ segmentPasses (stations layout itinerary) earliest latest path s
+    pub segment-read : (earliest latest s : ℕ) → s < infos path → {first : ℕ}
+        → first ≡ getD records (startOf path s - shared edition path s) 0
+        → segmentFits (λ m. stationAt layout itinerary (recordAfter layout itinerary first m)) earliest latest (peeringHopOf edition path s)
+        (infoField path s) (hopOf path s) (countOf path s)
+        ≡ segmentPasses edition (stations layout itinerary) earliest latest path s
     unfolding segmentPasses segmentFits
     segment-read earliest latest s h {first} e =
         ap (λ (b : Bool). leb (timestamp (infoField path s)) earliest && b)
         (all-same (countOf path s) _ _ (λ m w. rw (e, ← station-read s m h w)))
 
-    pub joint-read : (s : ℕ) → s + 1 < infos path → {station : ℕ}
-        → station ≡ getD records (startOf path (s + 1) - (s + 1)) 0
+    pick-true : (b : Bool) (x y : Bool) → b ≡ true → x ≡ cond b x y
+    pick-true true x y e = refl
+    pick-true false x y e = absurd (false≢true e)
+
+    pick-false : (b : Bool) (x y : Bool) → b ≡ false → y ≡ cond b x y
+    pick-false false x y e = refl
+    pick-false true x y e = absurd (false≢true (sym e))
+
+    pub joint-read : peeringPath edition path ≡ false → (s : ℕ) → s + 1 < infos path → {station : ℕ}
+        → station ≡ getD records (startOf path (s + 1) - shared edition path (s + 1)) 0
         → jointFits (stationAt layout itinerary station) (infoField path s) (hopOf path s (countOf path s - 1))
         (infoField path (s + 1)) (hopOf path (s + 1) 0)
-        ≡ jointPasses (stations layout itinerary) path s
+        ≡ jointPasses edition (stations layout itinerary) path s
     unfolding jointPasses recordAfter
-    joint-read s h {station} e =
-        rw (e, station-read (s + 1) 0 h (omega (arith, some-hops (s + 1) h)))
+    joint-read plain s h {station} e =
+        rw (e, ← station-read (s + 1) 0 h (omega (arith, some-hops (s + 1) h))) (pick-false (peeringPath edition path) _ _ plain)
+
+    -- over the peering link: the first hop's station, and the next
+    pub link-read : peeringPath edition path ≡ true → (s : ℕ) → s + 1 < infos path → {here next : ℕ}
+        → here ≡ getD records (startOf path s + (countOf path s - 1)) 0
+        → next ≡ getD records (startOf path (s + 1) - shared edition path (s + 1)) 0
+        → linkFits (stationAt layout itinerary here) (stationAt layout itinerary next) (infoField path s) (hopOf path s (countOf path s - 1))
+        (infoField path (s + 1)) (hopOf path (s + 1) 0)
+        ≡ jointPasses edition (stations layout itinerary) path s
+    unfolding jointPasses recordAfter
+    link-read p s h {here} {next} e f =
+        let w : countOf path s - 1 < countOf path s = omega (arith, some-hops s (omega arith)) in
+        let limit = recordCount layout itinerary in
+        let index : startOf path s + (countOf path s - 1) ≡ startOf path s - shared edition path s + (countOf path s - 1) =
+        omega (arith, shared-linked edition path p s) in
+        let last = station-from-record layout itinerary limit limit (startOf path s - shared edition path s + (countOf path s - 1)) noStation
+        (among s (countOf path s - 1) (omega arith) w) in
+        rw (e, index, ← last)
+        (rw (f, ← station-read (s + 1) 0 h (omega (arith, some-hops (s + 1) h))) (pick-true (peeringPath edition path) _ _ p))

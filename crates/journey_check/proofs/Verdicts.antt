@@ -8,6 +8,7 @@ use lib.ListN.{drop}
 use Rattle.standard_path.specs.Header.{metaThere, fieldsThere, hopsFew, headerCheck}
 use Rattle.standard_path.specs.declared.view.HeaderCheck.{HeaderCheck}
 use Rattle.standard_path.specs.declared.view.HeaderCheck.the-variants as header
+use Rattle.edition.specs.declared.Edition.{Edition}
 use Rattle.itinerary.specs.Layout.{Layout}
 use Rattle.itinerary.specs.Itinerary.{stations}
 use Rattle.journey.specs.declared.answer.JourneyError.the-variants.{MetaTooShort, DataTooShort, TooManyHops}
@@ -24,14 +25,14 @@ orRefused header.MetaTooShort rest = Refused MetaTooShort
 orRefused header.DataTooShort rest = Refused DataTooShort
 orRefused header.TooManyHops rest = Refused TooManyHops
 
-module _ (layout : Layout) (itinerary : List ℕ) (earliest latest : ℕ) (path : List ℕ) where
+module _ (edition : Edition) (layout : Layout) (itinerary : List ℕ) (earliest latest : ℕ) (path : List ℕ) where
   -- 23 and what comes after it
   abbrev pub later : Verdict
   later =
-      firstNo (drop 3 (questions layout itinerary earliest latest path))
-      (cond (passes (stations layout itinerary) earliest latest path) Passed NotPassed)
+      firstNo (drop 3 (questions edition layout itinerary earliest latest path))
+      (cond (passes edition (stations layout itinerary) earliest latest path) Passed NotPassed)
 
-  pub header-asked : journeyCheck layout itinerary earliest latest path ≡ orRefused (headerCheck path) later
+  pub header-asked : journeyCheck edition layout itinerary earliest latest path ≡ orRefused (headerCheck path) later
   unfolding journeyCheck firstNo headerCheck
   header-asked = go (metaThere path) (fieldsThere path) (hopsFew path) _
     where
@@ -43,6 +44,6 @@ module _ (layout : Layout) (itinerary : List ℕ) (earliest latest : ℕ) (path 
       go true true false rest = refl
       go true true true rest = refl
 
-  pub meets-demand-3 : {verdict : Verdict} → verdict ≡ journeyCheck layout itinerary earliest latest path
-      → (verdict ≡ journeyCheck layout itinerary earliest latest path) × Demand3 layout itinerary earliest latest path verdict
-  meets-demand-3 e = (e, rw e (demand-3 layout itinerary earliest latest path))
+  pub meets-demand-3 : {verdict : Verdict} → verdict ≡ journeyCheck edition layout itinerary earliest latest path
+      → (verdict ≡ journeyCheck edition layout itinerary earliest latest path) × Demand3 edition layout itinerary earliest latest path verdict
+  meets-demand-3 e = (e, rw e (demand-3 edition layout itinerary earliest latest path))

@@ -1,6 +1,7 @@
 // A hop of a segment: where it stands in the path, and what is asked of it at its station.
 use aes_cmac::aes;
 use aes_cmac::cmac;
+use edition::Edition;
 use interface_table::Listed;
 use itinerary::record;
 use itinerary::station::lookup;
@@ -17,7 +18,7 @@ ghost use Rattle.validator.specs.Check.{macNumber, rightMac};
 ghost use Rattle.routing.specs.Step.{keyMac};
 ghost use Rattle.itinerary.specs.Layout.{narrow};
 ghost use Rattle.itinerary.specs.Itinerary.{stationAt};
-ghost use Rattle.journey.specs.Check.{startOf, countOf, hopOf, chainedSegId, arrivesBy, leavesBy, hopFits};
+ghost use Rattle.journey.specs.Check.{startOf, countOf, hopOf, peeringHopOf, chainedSegId, arrivesBy, leavesBy, hopFits};
 
 // ---- where it stands
 
@@ -49,6 +50,14 @@ pub fn hop_of(path: &[u8], segment: u8, hop: u8) -> &[u8]
     view::hop_field(path, segment_start(path, segment) + hop)
 }
 
+// Whether it is a peering hop.
+pub fn is_peering_hop(edition: Edition, path: &[u8], segment: u8, hop: u8) -> bool
+    requires { ⌜ hop < 64 ⌝ }
+    ensures { λ r. ⌜ r ≡ peeringHopOf edition (now (path .entry)) segment hop ⌝ }
+{
+    edition::is_peering_hop(edition, path, segment_start(path, segment) + hop)
+}
+
 // ---- what is asked of it
 
 fn mac_fits(table: &[u8; 1024], key: [u8; 16], info: &[u8], hop: &[u8], segment_id: u16) -> bool
@@ -68,7 +77,7 @@ pub fn arrives_by(itinerary: &[u8], station: u32, info: &[u8], hop: &[u8]) -> bo
     (ingress == 0) | (ingress == record::arrival(itinerary, station))
 }
 
-fn leaves_by(itinerary: &[u8], station: u32, info: &[u8], hop: &[u8]) -> bool
+pub fn leaves_by(itinerary: &[u8], station: u32, info: &[u8], hop: &[u8]) -> bool
     ensures { λ r. ⌜ r ≡ leavesBy (stationAt narrow (now (itinerary .entry)) station) (now (info .entry)) (now (hop .entry)) ⌝ }
 {
     match lookup(itinerary, station, view::egress_interface(hop, info)) {
@@ -79,6 +88,7 @@ fn leaves_by(itinerary: &[u8], station: u32, info: &[u8], hop: &[u8]) -> bool
 
 // The hop with this place in its segment, at the station with this record.
 pub fn hop_fits(
+    edition: Edition,
     table: &[u8; 1024],
     itinerary: &[u8],
     station: u32,
@@ -89,10 +99,12 @@ pub fn hop_fits(
     hop: u8,
 ) -> bool
     requires table { ⌜ now table ≡ roundTable ⌝ }
-    requires chained { ⌜ «segment_id» ≡ chainedSegId (infoField (now path) segment) (hopOf (now path) segment) hop ⌝ }
+    requires chained { ⌜ «segment_id» ≡ chainedSegId (peeringHopOf edition (now path) segment) (infoField (now path) segment)
+        (hopOf (now path) segment) hop ⌝ }
     requires short { ⌜ hop < 64 ⌝ }
-    ensures { λ r. ⌜ r ≡ hopFits (stationAt narrow (now (itinerary .entry)) station) latest (infoField (now (path .entry)) segment)
-        (hopOf (now (path .entry)) segment) (countOf (now (path .entry)) segment) hop ⌝ }
+    ensures { λ r. ⌜ r ≡ hopFits (stationAt narrow (now (itinerary .entry)) station) latest
+        (peeringHopOf edition (now (path .entry)) segment) (infoField (now (path .entry)) segment) (hopOf (now (path .entry)) segment)
+        (countOf (now (path .entry)) segment) hop ⌝ }
 {
     let info = view::info_field(path, segment);
     let field = hop_of(path, segment, hop);

@@ -1,8 +1,10 @@
-// The joints of a path: the last hop of a segment and the first of the next, at one station.
+// The joints of a path: the last hop of a segment and the first of the next, at one station, or at two over a peering link.
 use crate::hops;
 use crate::segments;
+use edition::Edition;
 use interface_table::Listed;
 use itinerary::station::lookup;
+use itinerary::station::station_record;
 use standard_path::view;
 ghost use mathlib.Core.Path.{_≡_};
 ghost use Prim.Native.Nat.{_+_, _-_, _<_};
@@ -10,7 +12,7 @@ ghost use Rattle.standard_path.specs.Header.{infos};
 ghost use Rattle.validator.specs.Check.{linkOf};
 ghost use Rattle.itinerary.specs.Layout.{narrow};
 ghost use Rattle.itinerary.specs.Itinerary.{stationAt, stations};
-ghost use Rattle.journey.specs.Check.{all, jointFits, jointPasses};
+ghost use Rattle.journey.specs.Check.{all, linkFits, jointFits, jointPasses};
 ghost use Rattle.journey_check.specs.Matched.{Matched};
 
 fn link_of(listed: Listed) -> u8
@@ -46,32 +48,52 @@ fn joint_fits(
         & hops::arrives_by(itinerary, station, next_info, next_hop)
 }
 
-// From a segment to the next.
-fn joint_passes(itinerary: &[u8], path: &[u8], segment: u8) -> bool
-    requires matched { ⌜ Matched narrow (now itinerary) (now path) ⌝ }
-    requires listed { ⌜ segment + 1 < infos (now path) ⌝ }
-    ensures { λ r. ⌜ r ≡ jointPasses (stations narrow (now (itinerary .entry))) (now (path .entry)) segment ⌝ }
+// Over a peering link, at the stations with these records.
+fn link_fits(
+    itinerary: &[u8],
+    here: u32,
+    next: u32,
+    info: &[u8],
+    hop: &[u8],
+    next_info: &[u8],
+    next_hop: &[u8],
+) -> bool
+    ensures { λ r. ⌜ r ≡ linkFits (stationAt narrow (now (itinerary .entry)) here) (stationAt narrow (now (itinerary .entry)) next)
+        (now (info .entry)) (now (hop .entry)) (now («next_info» .entry)) (now («next_hop» .entry)) ⌝ }
 {
-    let next = segment + 1;
-    joint_fits(
-        itinerary,
-        segments::first_station(itinerary, path, next),
-        view::info_field(path, segment),
-        hops::hop_of(path, segment, hops::hop_count(path, segment) - 1),
-        view::info_field(path, next),
-        hops::hop_of(path, next, 0),
-    )
+    hops::leaves_by(itinerary, here, info, hop)
+        & hops::arrives_by(itinerary, next, next_info, next_hop)
 }
 
-pub fn joints_pass(itinerary: &[u8], path: &[u8]) -> bool
-    requires { ⌜ Matched narrow (now itinerary) (now path) ⌝ }
+// From a segment to the next.
+fn joint_passes(edition: Edition, itinerary: &[u8], path: &[u8], segment: u8) -> bool
+    requires matched { ⌜ Matched edition narrow (now itinerary) (now path) ⌝ }
+    requires listed { ⌜ segment + 1 < infos (now path) ⌝ }
+    ensures { λ r. ⌜ r ≡ jointPasses edition (stations narrow (now (itinerary .entry))) (now (path .entry)) segment ⌝ }
+{
+    let next = segment + 1;
+    let last = hops::hop_count(path, segment) - 1;
+    let station = segments::first_station(edition, itinerary, path, next);
+    let info = view::info_field(path, segment);
+    let hop = hops::hop_of(path, segment, last);
+    let next_info = view::info_field(path, next);
+    let next_hop = hops::hop_of(path, next, 0);
+    if edition::is_peering_path(edition, path) {
+        let here = station_record(itinerary, hops::segment_start(path, segment) + last);
+        return link_fits(itinerary, here, station, info, hop, next_info, next_hop);
+    }
+    joint_fits(itinerary, station, info, hop, next_info, next_hop)
+}
+
+pub fn joints_pass(edition: Edition, itinerary: &[u8], path: &[u8]) -> bool
+    requires { ⌜ Matched edition narrow (now itinerary) (now path) ⌝ }
     ensures { λ r. ⌜ r ≡ all (infos (now (path .entry)) - 1)
-        (jointPasses (stations narrow (now (itinerary .entry))) (now (path .entry))) ⌝ }
+        (jointPasses edition (stations narrow (now (itinerary .entry))) (now (path .entry))) ⌝ }
 {
     let infos = view::info_field_count(path);
     let mut segment: u8 = 0;
     while segment + 1 < infos {
-        if !joint_passes(itinerary, path, segment) {
+        if !joint_passes(edition, itinerary, path, segment) {
             return false;
         }
         segment += 1;

@@ -2,6 +2,7 @@
 use crate::joints;
 use crate::segments;
 use aes_cmac::aes;
+use edition::Edition;
 use itinerary::station;
 use journey::answer::JourneyError;
 use journey::answer::Verdict;
@@ -23,6 +24,7 @@ ghost use Rattle.journey.specs.declared.answer.Verdict.the-variants.{Passed, No
 // ---- the conditions of a pass
 
 fn passes_with(
+    edition: Edition,
     table: &[u8; 1024],
     itinerary: &[u8],
     earliest: u32,
@@ -30,37 +32,50 @@ fn passes_with(
     path: &[u8],
 ) -> bool
     requires table { ⌜ now table ≡ roundTable ⌝ }
-    requires counted { ⌜ length (stations narrow (now itinerary)) ≡ stationCount (now path) ⌝ }
-    ensures { λ r. ⌜ r ≡ passes (stations narrow (now (itinerary .entry))) earliest latest (now (path .entry)) ⌝ }
+    requires counted { ⌜ length (stations narrow (now itinerary)) ≡ stationCount edition (now path) ⌝ }
+    ensures { λ r. ⌜ r ≡ passes edition (stations narrow (now (itinerary .entry))) earliest latest (now (path .entry)) ⌝ }
 {
-    if !segments::lengths_fit(path) {
+    if !edition::peering_fits(edition, path) {
         return false;
     }
-    segments::segments_pass(table, itinerary, earliest, latest, path)
-        & joints::joints_pass(itinerary, path)
+    if !segments::lengths_pass(edition, path) {
+        return false;
+    }
+    segments::segments_pass(edition, table, itinerary, earliest, latest, path)
+        & joints::joints_pass(edition, itinerary, path)
 }
 
 // The round table is copied here, once for all MACs.
-fn passes(itinerary: &[u8], earliest: u32, latest: u32, path: &[u8]) -> bool
-    requires { ⌜ length (stations narrow (now itinerary)) ≡ stationCount (now path) ⌝ }
-    ensures { λ r. ⌜ r ≡ passes (stations narrow (now (itinerary .entry))) earliest latest (now (path .entry)) ⌝ }
+fn passes(edition: Edition, itinerary: &[u8], earliest: u32, latest: u32, path: &[u8]) -> bool
+    requires { ⌜ length (stations narrow (now itinerary)) ≡ stationCount edition (now path) ⌝ }
+    ensures { λ r. ⌜ r ≡ passes edition (stations narrow (now (itinerary .entry))) earliest latest (now (path .entry)) ⌝ }
 {
     let table = aes::round_table();
-    passes_with(&table, itinerary, earliest, latest, path)
+    passes_with(edition, &table, itinerary, earliest, latest, path)
 }
 
 // ---- the questions
 
-fn station_count(path: &[u8]) -> u8
-    ensures { λ r. ⌜ r ≡ stationCount (now (path .entry)) ⌝ }
+fn station_count(edition: Edition, path: &[u8]) -> u8
+    ensures { λ r. ⌜ r ≡ stationCount edition (now (path .entry)) ⌝ }
 {
+    if edition::is_peering_path(edition, path) {
+        return view::hop_field_count(path);
+    }
     view::hop_field_count(path) - view::info_field_count(path) + 1
 }
 
-fn itinerary_fits(itinerary: &[u8], earliest: u32, latest: u32, path: &[u8]) -> bool
-    ensures { λ r. ⌜ r ≡ (itineraryFits narrow (now (itinerary .entry)) (stationCount (now (path .entry))) && leb earliest latest) ⌝ }
+fn itinerary_fits(
+    edition: Edition,
+    itinerary: &[u8],
+    earliest: u32,
+    latest: u32,
+    path: &[u8],
+) -> bool
+    ensures { λ r. ⌜ r ≡
+        (itineraryFits narrow (now (itinerary .entry)) (stationCount edition (now (path .entry))) && leb earliest latest) ⌝ }
 {
-    station::fits(itinerary, station_count(path)) & (earliest <= latest)
+    station::fits(itinerary, station_count(edition, path)) & (earliest <= latest)
 }
 
 fn is_at_start(path: &[u8]) -> bool
@@ -90,11 +105,17 @@ fn is_quiet(path: &[u8]) -> bool
 }
 
 // Questions 23 to 25, and what comes after them.
-fn check_complete(path: &[u8], itinerary: &[u8], earliest: u32, latest: u32) -> Verdict
-    ensures { λ r. ⌜ r ≡ firstNo (drop 3 (questions narrow (now (itinerary .entry)) earliest latest (now (path .entry))))
-        (cond (passes (stations narrow (now (itinerary .entry))) earliest latest (now (path .entry))) Passed NotPassed) ⌝ }
+fn check_complete(
+    edition: Edition,
+    path: &[u8],
+    itinerary: &[u8],
+    earliest: u32,
+    latest: u32,
+) -> Verdict
+    ensures { λ r. ⌜ r ≡ firstNo (drop 3 (questions edition narrow (now (itinerary .entry)) earliest latest (now (path .entry))))
+        (cond (passes edition (stations narrow (now (itinerary .entry))) earliest latest (now (path .entry))) Passed NotPassed) ⌝ }
 {
-    if !itinerary_fits(itinerary, earliest, latest, path) {
+    if !itinerary_fits(edition, itinerary, earliest, latest, path) {
         return Verdict::Refused(JourneyError::UnfitItinerary);
     }
     if !is_at_start(path) {
@@ -103,21 +124,27 @@ fn check_complete(path: &[u8], itinerary: &[u8], earliest: u32, latest: u32) -> 
     if !is_quiet(path) {
         return Verdict::Refused(JourneyError::AlertSet);
     }
-    if passes(itinerary, earliest, latest, path) {
+    if passes(edition, itinerary, earliest, latest, path) {
         Verdict::Passed
     } else {
         Verdict::NotPassed
     }
 }
 
-pub fn check_journey(path: &[u8], itinerary: &[u8], earliest: u32, latest: u32) -> Verdict
-    ensures { λ r. ⌜ r ≡ journeyCheck narrow (now (itinerary .entry)) earliest latest (now (path .entry)) ⌝ }
-    ensures { λ r. ⌜ Demand3 narrow (now (itinerary .entry)) earliest latest (now (path .entry)) r ⌝ }
+pub fn check_journey(
+    edition: Edition,
+    path: &[u8],
+    itinerary: &[u8],
+    earliest: u32,
+    latest: u32,
+) -> Verdict
+    ensures { λ r. ⌜ r ≡ journeyCheck edition narrow (now (itinerary .entry)) earliest latest (now (path .entry)) ⌝ }
+    ensures { λ r. ⌜ Demand3 edition narrow (now (itinerary .entry)) earliest latest (now (path .entry)) r ⌝ }
 {
     match view::check_header(path) {
         HeaderCheck::MetaTooShort => Verdict::Refused(JourneyError::MetaTooShort),
         HeaderCheck::DataTooShort => Verdict::Refused(JourneyError::DataTooShort),
         HeaderCheck::TooManyHops => Verdict::Refused(JourneyError::TooManyHops),
-        HeaderCheck::Complete => check_complete(path, itinerary, earliest, latest),
+        HeaderCheck::Complete => check_complete(edition, path, itinerary, earliest, latest),
     }
 }

@@ -8,6 +8,8 @@ use Rattle.interface_table.specs.declared.Listed.{Listed}
 use Rattle.validator.specs.Answer.{refusalNumber}
 use Rattle.validator.specs.Questions.{Questions}
 use Rattle.validator.specs.Check.{MacFunction, hopQuestions, changeQuestions}
+use Rattle.edition.specs.declared.Edition.{Edition}
+use Rattle.edition.specs.declared.Edition.the-variants.{First, Second}
 use Rattle.routing.specs.Place.{before, ingressPlace, egressPlace}
 use Rattle.routing.specs.Ingress.{ingressQuestions}
 use Rattle.routing.specs.Egress.{egressQuestions}
@@ -22,8 +24,12 @@ pub before-numbers : (ids states path : List ℕ) → numbers (before ids states
 before-numbers ids states path = refl
 
 -- 'Ingress': 8 is asked of the info field here, and at a segment change of the next one
-pub ingress-place-numbers : (path : List ℕ) → numbers (ingressPlace path) ≡ 5 ∷ 6 ∷ 7 ∷ 8 ∷ 8 ∷ []
+pub ingress-place-numbers : (path : List ℕ) → numbers (ingressPlace First path) ≡ 5 ∷ 6 ∷ 7 ∷ 8 ∷ 8 ∷ []
 ingress-place-numbers path = refl
+
+-- F-6: '28, second edition only, right after 8'
+pub ingress-place-numbers-second : (path : List ℕ) → numbers (ingressPlace Second path) ≡ 5 ∷ 6 ∷ 7 ∷ 8 ∷ 8 ∷ 28 ∷ []
+ingress-place-numbers-second path = refl
 
 pub hop-numbers-at-ingress : (mac : MacFunction) (interface time : ℕ) (unchecked : Bool) (index : ℕ) (hop info : List ℕ) (segId : ℕ)
     → numbers (hopQuestions mac (atIngress interface time unchecked) index hop info segId) ≡ 9 ∷ 10 ∷ 11 ∷ 12 ∷ []
@@ -34,13 +40,13 @@ pub change-numbers : (ids states : List ℕ) (index : ℕ) (hop info nextHop nex
     → numbers (changeQuestions ids states index hop info nextHop nextInfo) ≡ 13 ∷ 13 ∷ 14 ∷ 15 ∷ 16 ∷ []
 change-numbers ids states index hop info nextHop nextInfo = refl
 
-module _ (ids states : List ℕ) (mac : MacFunction) (interface time : ℕ) (unchecked : Bool) (path : List ℕ) where
+module _ (edition : Edition) (ids states : List ℕ) (mac : MacFunction) (interface time : ℕ) (unchecked : Bool) (path : List ℕ) where
   -- the whole list behind 8
-  pub ingress-numbers : numbers (ingressQuestions ids states mac (atIngress interface time unchecked) path false)
+  pub ingress-numbers : numbers (ingressQuestions edition ids states mac (atIngress interface time unchecked) path false)
       ≡ 9 ∷ 10 ∷ 11 ∷ 12 ∷ []
   ingress-numbers = refl
 
-  pub ingress-numbers-at-change : numbers (ingressQuestions ids states mac (atIngress interface time unchecked) path true)
+  pub ingress-numbers-at-change : numbers (ingressQuestions edition ids states mac (atIngress interface time unchecked) path true)
       ≡ 9 ∷ 10 ∷ 11 ∷ 12 ∷ 13 ∷ 13 ∷ 14 ∷ 15 ∷ 16 ∷ 9 ∷ 10 ∷ 11 ∷ 12 ∷ []
   ingress-numbers-at-change = refl
 
@@ -49,8 +55,11 @@ pub leaving-numbers : (listed : Listed) (out : ℕ) (path : List ℕ) → number
 leaving-numbers listed out path = refl
 
 -- 'Egress'
-pub egress-place-numbers : (path : List ℕ) → numbers (egressPlace path) ≡ 5 ∷ 7 ∷ 8 ∷ 5 ∷ 18 ∷ []
+pub egress-place-numbers : (path : List ℕ) → numbers (egressPlace First path) ≡ 5 ∷ 7 ∷ 8 ∷ 5 ∷ 18 ∷ []
 egress-place-numbers path = refl
+
+pub egress-place-numbers-second : (path : List ℕ) → numbers (egressPlace Second path) ≡ 5 ∷ 7 ∷ 8 ∷ 28 ∷ 5 ∷ 18 ∷ []
+egress-place-numbers-second path = refl
 
 pub egress-numbers : (mac : MacFunction) (interface time : ℕ) (unchecked : Bool) (path : List ℕ)
     → numbers (egressQuestions mac (atEgress interface time unchecked) path) ≡ 19 ∷ 10 ∷ 11 ∷ 12 ∷ []

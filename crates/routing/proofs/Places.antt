@@ -1,10 +1,11 @@
 -- What the header's reader and the segment index say, in the words of the questions.
 -- Assumes nothing.
 use mathlib.Core.Path.{_≡_, refl}
-use mathlib.Core.Bool.{Bool, true, false, cond}
+use mathlib.Core.Bool.{Bool, true, false, not, _&&_, _||_, cond}
 use mathlib.Core.List.{List}
 use Prim.Native.Nat.{ℕ, _+_}
 use native.Mathlib.Omega.{arith}
+use borrow.Author.Tests.{not-true, not-false}
 use lib.Dec.{eqb, ltb}
 use Rattle.standard_path.specs.Fields.{seg0Len, seg1Len, seg2Len}
 use Rattle.standard_path.specs.Header.{hops, metaThere, fieldsThere, hopsFew, headerCheck, segmentOf, segmentStart, segmentEnd, segmentAmong, segmentIndex}
@@ -69,6 +70,14 @@ lies-nowhere path h e = go (ltb h (hops path)) refl e
     go : (inside : Bool) → ltb h (hops path) ≡ inside → found path h inside ≡ OutOfBounds → ltb h (hops path) ≡ false
     go true i q = let z : _≡_ {A = ℕ} 0 1 = cc in absurd (omega arith)
     go false i q = i
+
+-- the test of 6, as the code has it
+module _ {path : List ℕ} {h index : ℕ} {start end : Bool} (l : Lies path h index start end) where
+  pub allowed : (peeringPath : Bool) → not (peeringPath || not (start && end)) ≡ false → (peeringPath || not (start && end)) ≡ true
+  allowed peeringPath e = not-false (peeringPath || not (start && end)) e
+
+  pub alone-no : (peeringPath : Bool) → not (peeringPath || not (start && end)) ≡ true → (peeringPath || not (start && end)) ≡ false
+  alone-no peeringPath e = not-true (peeringPath || not (start && end)) e
 
 -- where the path was found to stand
 pub record Stands (asked : Validation) (change last here final : Bool) : Type 0 where

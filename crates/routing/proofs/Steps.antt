@@ -17,6 +17,7 @@ use Rattle.validator.specs.Check.{MacFunction, scheduleMac, macQuestions}
 use Rattle.validator.specs.declared.answer.Validation.{Validation}
 use Rattle.validator.specs.declared.answer.IngressNextAction.{IngressNextAction}
 use Rattle.validator.specs.declared.answer.IngressNextAction.the-variants.{ContinueEgress, Complete, Refused}
+use Rattle.edition.specs.declared.Edition.{Edition}
 use Rattle.routing.specs.Step.{keyMac, finished, stepFrom}
 
 pub schedule-law : (key : List ℕ) {t k1 : List ℕ} {w : List (List ℕ)} → t ≡ roundTable → w ≡ roundKeys key → k1 ≡ subkey1 (cipherBy t w)
@@ -34,16 +35,16 @@ mac-asked key p q r checked e atIndex atHop atInfo atSegId =
     e ∙ λ i. firstNo (macQuestions (schedule-law key p q r i) (sym checked i) (atIndex i) (atHop i) (atInfo i) (atSegId i))
 
 -- an ingress that does not go on
-module _ (ids states : List ℕ) (mac : MacFunction) (time : ℕ) (unchecked : Bool) (path : List ℕ) where
+module _ (edition : Edition) (ids states : List ℕ) (mac : MacFunction) (time : ℕ) (unchecked : Bool) (path : List ℕ) where
   pub leaves : (answer : IngressNextAction) → (tagOf the-type answer ≡ 1) ⊎ (tagOf the-type answer ≡ 2)
-      → finished answer ≡ stepFrom answer ids states mac time unchecked path .answer
+      → finished answer ≡ stepFrom edition answer ids states mac time unchecked path .answer
   unfolding finished stepFrom
   leaves (Complete action) h = refl
   leaves (Refused why) h = refl
   leaves (ContinueEgress out) h = absurd (⊎-elim (λ e. omega arith) (λ e. omega arith) h)
 
   pub stays : (answer : IngressNextAction) → (tagOf the-type answer ≡ 1) ⊎ (tagOf the-type answer ≡ 2)
-      → path ≡ stepFrom answer ids states mac time unchecked path .bytes
+      → path ≡ stepFrom edition answer ids states mac time unchecked path .bytes
   unfolding stepFrom
   stays (Complete action) h = refl
   stays (Refused why) h = refl

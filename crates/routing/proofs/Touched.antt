@@ -8,14 +8,16 @@ use Prim.Native.Nat.{ℕ, _+_, _≤_, _<_}
 use lib.Dec.{eqb}
 use lib.ListN.{length}
 use Rattle.standard_path.specs.Layout.{infoOffset}
-use Rattle.standard_path.specs.Fields.{currInf, currHf, consDir, segId, timestamp, expTime, consIngress, consEgress, macField}
+use Rattle.standard_path.specs.Fields.{currInf, currHf, consDir, peering, segId, timestamp, expTime, consIngress, consEgress, macField}
 use Rattle.standard_path.specs.Header.{infos, infoField, hopField}
-use Rattle.standard_path.specs.Moves.{clearIngressAlert}
+use Rattle.standard_path.specs.Moves.{flagsAt, alertClearedAt, clearIngressAlert}
 use Rattle.standard_path.proofs.Kept.{Kept, kept-self, kept-trans, infos-kept}
 use Rattle.standard_path.proofs.SegIdSet.{seg-id-kept, seg-id-curr-inf, seg-id-curr-hf, seg-id-hop}
-use Rattle.standard_path.proofs.SegIdSet.{seg-id-cons-dir, seg-id-timestamp, seg-id-info-other, seg-id-after}
+use Rattle.standard_path.proofs.SegIdSet.{seg-id-cons-dir, seg-id-peering, seg-id-timestamp, seg-id-info-other, seg-id-after}
 use Rattle.standard_path.proofs.AlertCleared.{alert-kept, alert-curr-inf, alert-curr-hf, alert-info, alert-hop-other}
 use Rattle.standard_path.proofs.AlertCleared.{alert-exp-time, alert-cons-ingress, alert-cons-egress, alert-mac}
+use Rattle.edition.specs.declared.Edition.{Edition}
+use Rattle.routing.specs.Place.{isPeeringHop}
 use Rattle.routing.specs.Ingress.{hop, info, stepped, steppedSegId, ingressSegId, ingressFields}
 
 -- two hop fields that differ in their flags at most
@@ -28,17 +30,30 @@ pub record SameHop (first second : List ℕ) : Type 0 where
 pub same-hop : {first second : List ℕ} → second ≡ first → SameHop first second
 same-hop e = record { units = ap expTime e; into = ap consIngress e; out = ap consEgress e; mac = ap macField e }
 
--- two info fields that differ in SegID, P and reserved bits at most
+-- two info fields that differ in SegID and reserved bits at most
 pub record SameInfo (first second : List ℕ) : Type 0 where
   pub dir : consDir second ≡ consDir first
   pub start : timestamp second ≡ timestamp first
+  pub peer : peering second ≡ peering first
 
 pub same-info : {first second : List ℕ} → second ≡ first → SameInfo first second
-same-info e = record { dir = ap consDir e; start = ap timestamp e }
+same-info e = record { dir = ap consDir e; start = ap timestamp e; peer = ap peering e }
 
 -- the beta step, if taken, and the travel-ingress alert of the current hop cleared; for the other, `not c` for c
 abbrev pub touched : List ℕ → Bool → Bool → List ℕ
 touched path taken c = clearIngressAlert (stepped path taken) c (currHf path)
+
+-- where the flags of a hop stand is not moved by the beta step
+stepped-flags : (path : List ℕ) (taken : Bool) (h : ℕ) → flagsAt (stepped path taken) h ≡ flagsAt path h
+unfolding stepped
+stepped-flags path true h = rw (infos-kept (seg-id-kept path (currInf path) (steppedSegId path)))
+stepped-flags path false h = refl
+
+-- so the code, which looks for them before it, writes where the definition does
+pub cleared-there : (path : List ℕ) (taken c : Bool) {at : ℕ} → at ≡ flagsAt path (currHf path)
+    → alertClearedAt (stepped path taken) at c ≡ touched path taken c
+unfolding clearIngressAlert
+cleared-there path taken c e = rw (e, stepped-flags path taken (currHf path))
 
 -- the SegID of the current info field after it
 abbrev pub touchedSegId : List ℕ → Bool → ℕ
@@ -90,7 +105,11 @@ module _ (path : List ℕ) (inside : currInf path < infos path) where
 
   pub stepped-info : (taken : Bool) (j : ℕ) → SameInfo (infoField path j) (infoField (stepped path taken) j)
   unfolding stepped
-  stepped-info true j = record { dir = seg-id-cons-dir path (currInf path) _ j; start = seg-id-timestamp path (currInf path) _ j }
+  stepped-info true j = record {
+    dir = seg-id-cons-dir path (currInf path) _ j;
+    start = seg-id-timestamp path (currInf path) _ j;
+    peer = seg-id-peering path (currInf path) _ j;
+  }
   stepped-info false j = same-info refl
 
   pub stepped-info-other : (taken : Bool) (j : ℕ) → (j ≡ currInf path → ⊥) → infoField (stepped path taken) j ≡ infoField path j
@@ -127,17 +146,22 @@ module _ (path : List ℕ) (inside : currInf path < infos path) where
           mac = alert-mac s c h ∙ ap macField hop-kept;
         };
         hop-other = λ j other. alert-hop-other s c h j other ∙ stepped-hop taken j;
-        info-here = record { dir = ap consDir info-kept ∙ same .dir; start = ap timestamp info-kept ∙ same .start };
+        info-here =
+            record {
+              dir = ap consDir info-kept ∙ same .dir;
+              start = ap timestamp info-kept ∙ same .start;
+              peer = ap peering info-kept ∙ same .peer;
+            };
         info-other = λ j among other. touched-infos taken c j among ∙ stepped-info-other taken j other;
         seg = ap segId info-kept ∙ stepped-seg-id taken room;
       }
 
-  pub ingress-fields-moved : (interface : ℕ) → infoOffset (currInf path) + 8 ≤ length path
-      → FieldsMoved path (ingressFields path interface) (ingressSegId path interface)
-  ingress-fields-moved interface room = go (eqb interface 0)
+  pub ingress-fields-moved : (edition : Edition) (interface : ℕ) → infoOffset (currInf path) + 8 ≤ length path
+      → FieldsMoved path (ingressFields edition path interface) (ingressSegId edition path interface)
+  ingress-fields-moved edition interface room = go (eqb interface 0)
     where
       go : (local : Bool)
-          → let taken = not local && not (consDir (info path)) in
+          → let taken = not local && (not (isPeeringHop edition path) && not (consDir (info path))) in
           FieldsMoved path (cond local path (touched path taken (consDir (info path)))) (touchedSegId path taken)
       go true = unmoved path
       go false = touched-moves _ _ room

@@ -12,6 +12,7 @@ use Rattle.validator.specs.declared.answer.Validation.the-variants.{Valid}
 use Rattle.validator.specs.declared.answer.IngressNextAction.{IngressNextAction}
 use Rattle.validator.specs.declared.answer.IngressNextAction.the-variants.{ContinueEgress, Complete, Refused}
 use Rattle.validator.proofs.Asked.{goes-on, ends-yes, none-asked}
+use Rattle.edition.specs.declared.Edition.{Edition}
 use Rattle.routing.specs.Place.{changes}
 use Rattle.routing.specs.Ingress.{hop, info, nextHop, nextInfo, ingressSegId, nextFieldQuestions, nextQuestions, ingressQuestions, ingress}
 use Rattle.routing.specs.Egress.{egressQuestions, egress}
@@ -32,15 +33,15 @@ module _ (mac : MacFunction) (at : StandardValidator) (ignored : at .«ignore_ma
       ∙ mac-unasked index hop info segId more
 
   module _ (path : List ℕ) (asked : firstNo (fieldQuestions at (currHf path) (hop path) (info path)) ≡ Valid) where
-    pub ingress-stays : (ids states : List ℕ) → firstNo (ingressQuestions ids states mac at path false) ≡ Valid
-    ingress-stays ids states =
-        hop-unasked (currHf path) (hop path) (info path) (ingressSegId path (at .«current_interface_id»)) [] asked ∙ none-asked
+    pub ingress-stays : (edition : Edition) (ids states : List ℕ) → firstNo (ingressQuestions edition ids states mac at path false) ≡ Valid
+    ingress-stays edition ids states =
+        hop-unasked (currHf path) (hop path) (info path) (ingressSegId edition path (at .«current_interface_id»)) [] asked ∙ none-asked
 
-    pub ingress-changes : (ids states : List ℕ)
-        → firstNo (ingressQuestions ids states mac at path true) ≡ firstNo (nextFieldQuestions ids states at path)
-    ingress-changes ids states =
+    pub ingress-changes : (edition : Edition) (ids states : List ℕ)
+        → firstNo (ingressQuestions edition ids states mac at path true) ≡ firstNo (nextFieldQuestions ids states at path)
+    ingress-changes edition ids states =
         let last = macQuestions mac (at .«ignore_macs») (currHf path + 1) (nextHop path) (nextInfo path) (segId (nextInfo path)) in
-        hop-unasked (currHf path) (hop path) (info path) (ingressSegId path (at .«current_interface_id»))
+        hop-unasked (currHf path) (hop path) (info path) (ingressSegId edition path (at .«current_interface_id»))
         (nextQuestions ids states mac at path) asked
         ∙ ends-yes (nextFieldQuestions ids states at path) last
         (mac-unasked (currHf path + 1) (nextHop path) (nextInfo path) (segId (nextInfo path)) [] ∙ none-asked)
@@ -50,30 +51,33 @@ module _ (mac : MacFunction) (at : StandardValidator) (ignored : at .«ignore_ma
 
 -- ---- whatever the MACs are
 
-module _ (ids states : List ℕ) (mac other : MacFunction) (interface time : ℕ) (path : List ℕ) where
+module _ (edition : Edition) (ids states : List ℕ) (mac other : MacFunction) (interface time : ℕ) (path : List ℕ) where
   questions-unchecked : (change : Bool)
-      → firstNo (ingressQuestions ids states mac (atIngress interface time true) path change)
-      ≡ firstNo (ingressQuestions ids states other (atIngress interface time true) path change)
+      → firstNo (ingressQuestions edition ids states mac (atIngress interface time true) path change)
+      ≡ firstNo (ingressQuestions edition ids states other (atIngress interface time true) path change)
   unfolding firstNo
   questions-unchecked true = refl
   questions-unchecked false = refl
 
-  pub ingress-unchecked : ingress ids states mac (atIngress interface time true) path ≡ ingress ids states other (atIngress interface time true) path
+  pub ingress-unchecked : ingress edition ids states mac (atIngress interface time true) path
+      ≡ ingress edition ids states other (atIngress interface time true) path
   unfolding ingress
-  ingress-unchecked = rw (questions-unchecked (changes path))
+  ingress-unchecked = rw (questions-unchecked (changes edition path))
 
-  pub egress-unchecked : egress ids states mac (atEgress interface time true) path ≡ egress ids states other (atEgress interface time true) path
+  pub egress-unchecked : egress edition ids states mac (atEgress interface time true) path
+      ≡ egress edition ids states other (atEgress interface time true) path
   unfolding egress firstNo
   egress-unchecked = refl
 
-pub step-unchecked : (ids states : List ℕ) (mac other : MacFunction) (interface time : ℕ) (path : List ℕ)
-    → step ids states mac interface time true path ≡ step ids states other interface time true path
+pub step-unchecked : (edition : Edition) (ids states : List ℕ) (mac other : MacFunction) (interface time : ℕ) (path : List ℕ)
+    → step edition ids states mac interface time true path ≡ step edition ids states other interface time true path
 unfolding step stepFrom
-step-unchecked ids states mac other interface time path =
-    rw (ingress-unchecked ids states mac other interface time path)
-    (go (ingress ids states other (atIngress interface time true) path .answer) _)
+step-unchecked edition ids states mac other interface time path =
+    rw (ingress-unchecked edition ids states mac other interface time path)
+    (go (ingress edition ids states other (atIngress interface time true) path .answer) _)
   where
-    go : (answer : IngressNextAction) (bytes : List ℕ) → stepFrom answer ids states mac time true bytes ≡ stepFrom answer ids states other time true bytes
-    go (ContinueEgress out) bytes = rw (egress-unchecked ids states mac other out time bytes)
+    go : (answer : IngressNextAction) (bytes : List ℕ)
+        → stepFrom edition answer ids states mac time true bytes ≡ stepFrom edition answer ids states other time true bytes
+    go (ContinueEgress out) bytes = rw (egress-unchecked edition ids states mac other out time bytes)
     go (Complete action) bytes = refl
     go (Refused why) bytes = refl

@@ -15,23 +15,24 @@ use Rattle.validator.specs.declared.answer.IngressNextAction.{IngressNextAction
 use Rattle.validator.specs.declared.answer.IngressNextAction.the-variants.{ContinueEgress, Complete, Refused as Stopped}
 use Rattle.validator.specs.declared.answer.StepAnswer.{StepAnswer}
 use Rattle.validator.specs.declared.answer.StepAnswer.the-variants.{Action, Refused}
+use Rattle.edition.specs.declared.Edition.{Edition}
 use Rattle.routing.specs.Outcome.{Outcome, asks}
 use Rattle.routing.specs.Place.{before, isFinal, changes, ingressPlace}
 use Rattle.routing.specs.Ingress.{ingressQuestions, ingressMove, alertsAtIngress, leaving, ingressAction, decided, ingress}
 use Rattle.routing.specs.Egress.{egressAction, egressMove}
-use Rattle.routing.specs.Step.{atIngress, atEgress, leavingQuestions, finished, stepFrom, step}
-use Rattle.routing.proofs.Inside.{WentOn, insideQuestions, egress-after}
+use Rattle.routing.specs.Step.{atIngress, leavingQuestions, finished, stepFrom, step}
+use Rattle.routing.proofs.Inside.{insideQuestions, egress-after}
 
-module _ (ids states : List ℕ) (mac : MacFunction) (interface time : ℕ) (unchecked : Bool) (path : List ℕ) where
+module _ (edition : Edition) (ids states : List ℕ) (mac : MacFunction) (interface time : ℕ) (unchecked : Bool) (path : List ℕ) where
   -- the bytes after ingress, and the interface to leave by
   abbrev pub entered : List ℕ
-  entered = ingressMove path interface (changes path)
+  entered = ingressMove edition path interface (changes edition path)
 
   abbrev pub way : ℕ
-  way = leaving path (changes path)
+  way = leaving path (changes edition path)
 
   abbrev pub checks : Questions
-  checks = ingressQuestions ids states mac (atIngress interface time unchecked) path (changes path)
+  checks = ingressQuestions edition ids states mac (atIngress interface time unchecked) path (changes edition path)
 
   abbrev pub leavingChecks : Questions
   leavingChecks = leavingQuestions (stateOf ids states way) way entered
@@ -40,8 +41,8 @@ module _ (ids states : List ℕ) (mac : MacFunction) (interface time : ℕ) (unc
   abbrev pub wayOut : Outcome StepAnswer
   wayOut =
       asks Refused (firstNo leavingChecks) entered
-      (asks Refused (firstNo (insideQuestions entered)) entered
-      (record { answer = egressAction entered; bytes = egressMove entered }))
+      (asks Refused (firstNo (insideQuestions edition entered)) entered
+      (record { answer = egressAction entered; bytes = egressMove edition entered }))
 
   -- with every check passed
   abbrev pub acted : Bool → Bool → Outcome StepAnswer
@@ -49,16 +50,16 @@ module _ (ids states : List ℕ) (mac : MacFunction) (interface time : ℕ) (unc
       cond alert (record { answer = Action (Local (IngressSCMPHandleRequest interface)); bytes = entered })
       (cond final (record { answer = Action (Local ForwardLocal); bytes = entered }) wayOut)
 
-  pub step-asks : step ids states mac interface time unchecked path
+  pub step-asks : step edition ids states mac interface time unchecked path
       ≡ asks Refused (firstNo (before ids states path)) path
-      (asks Refused (firstNo (ingressPlace path)) path
+      (asks Refused (firstNo (ingressPlace edition path)) path
       (asks Refused (firstNo checks) entered (acted (alertsAtIngress path interface) (isFinal path))))
   unfolding step stepFrom finished ingress ingressAction
   step-asks =
-      go (firstNo (before ids states path)) refl (firstNo (ingressPlace path)) refl (firstNo checks) refl
+      go (firstNo (before ids states path)) refl (firstNo (ingressPlace edition path)) refl (firstNo checks) refl
       (alertsAtIngress path interface) refl (isFinal path) refl
     where
-      go : (first : Validation) → firstNo (before ids states path) ≡ first → (place : Validation) → firstNo (ingressPlace path) ≡ place
+      go : (first : Validation) → firstNo (before ids states path) ≡ first → (place : Validation) → firstNo (ingressPlace edition path) ≡ place
           → (passed : Validation) → firstNo checks ≡ passed → (alert : Bool) → alertsAtIngress path interface ≡ alert
           → (final : Bool) → isFinal path ≡ final
           → let outcome : Outcome IngressNextAction =
@@ -70,7 +71,7 @@ module _ (ids states : List ℕ) (mac : MacFunction) (interface time : ℕ) (unc
                 (cond final (Complete (Local ForwardLocal)) (ContinueEgress way)));
             bytes = entered;
           })) in
-          stepFrom (outcome .answer) ids states mac time unchecked (outcome .bytes)
+          stepFrom edition (outcome .answer) ids states mac time unchecked (outcome .bytes)
           ≡ asks Refused first path (asks Refused place path (asks Refused passed entered (acted alert final)))
       go (Invalid why) a place b passed c alert d final e = refl
       go Valid a (Invalid why) b passed c alert d final e = refl
@@ -78,5 +79,5 @@ module _ (ids states : List ℕ) (mac : MacFunction) (interface time : ℕ) (unc
       go Valid a Valid b Valid c true d final e = refl
       go Valid a Valid b Valid c false d true e = refl
       go Valid a Valid b Valid c false d false e =
-          rw (egress-after ids states mac interface time unchecked path way
+          rw (egress-after edition ids states mac interface time unchecked path way
           (record { asked = a; placed = b; checked = c; going = rw (d, e) }))

@@ -17,8 +17,9 @@ use Rattle.validator.specs.declared.answer.LocalAsRoutingAction.the-variants.{I
 use Rattle.validator.specs.declared.answer.AsRoutingAction.the-variants.{Local}
 use Rattle.validator.specs.declared.answer.IngressNextAction.{IngressNextAction}
 use Rattle.validator.specs.declared.answer.IngressNextAction.the-variants.{ContinueEgress, Complete, Refused}
+use Rattle.edition.specs.declared.Edition.{Edition}
 use Rattle.routing.specs.Outcome.{Outcome, asks}
-use Rattle.routing.specs.Place.{before, ingressPlace, isFinal, changes}
+use Rattle.routing.specs.Place.{before, ingressPlace, isFinal, isPeeringHop, changes}
 
 -- the current hop field and its info field, and the next of each
 abbrev pub hop : List ℕ → List ℕ
@@ -41,12 +42,12 @@ steppedSegId path = macBetaStep (segId (info path)) (macField (hop path))
 unfoldable pub stepped : List ℕ → Bool → List ℕ
 stepped path taken = cond taken (setSegId path (currInf path) (steppedSegId path)) path
 
--- at ingress the hop takes a beta step if it came from outside, against construction
-abbrev pub stepsAtIngress : List ℕ → ℕ → Bool
-stepsAtIngress path interface = not (eqb interface 0) && not (consDir (info path))
+-- at ingress the hop takes a beta step if it came from outside, against construction, and is no peering hop
+abbrev pub stepsAtIngress : Edition → List ℕ → ℕ → Bool
+stepsAtIngress edition path interface = not (eqb interface 0) && (not (isPeeringHop edition path) && not (consDir (info path)))
 
-abbrev pub ingressSegId : List ℕ → ℕ → ℕ
-ingressSegId path interface = cond (stepsAtIngress path interface) (steppedSegId path) (segId (info path))
+abbrev pub ingressSegId : Edition → List ℕ → ℕ → ℕ
+ingressSegId edition path interface = cond (stepsAtIngress edition path interface) (steppedSegId path) (segId (info path))
 
 -- ---- 9 to 12, and at a segment change 13 to 16 and 9 to 12 for the next hop
 
@@ -61,23 +62,23 @@ nextQuestions ids states mac at path =
     nextFieldQuestions ids states at path
     ++ macQuestions mac (at .«ignore_macs») (currHf path + 1) (nextHop path) (nextInfo path) (segId (nextInfo path))
 
-abbrev pub ingressQuestions : List ℕ → List ℕ → MacFunction → StandardValidator → List ℕ → Bool → Questions
-ingressQuestions ids states mac at path change =
-    hopQuestions mac at (currHf path) (hop path) (info path) (ingressSegId path (at .«current_interface_id»))
+abbrev pub ingressQuestions : Edition → List ℕ → List ℕ → MacFunction → StandardValidator → List ℕ → Bool → Questions
+ingressQuestions edition ids states mac at path change =
+    hopQuestions mac at (currHf path) (hop path) (info path) (ingressSegId edition path (at .«current_interface_id»))
     ++ cond change (nextQuestions ids states mac at path) []
 
 -- ---- the move: the beta step, the travel-ingress alert cleared, both indices up at a segment change
 
-abbrev pub ingressFields : List ℕ → ℕ → List ℕ
-ingressFields path interface =
+abbrev pub ingressFields : Edition → List ℕ → ℕ → List ℕ
+ingressFields edition path interface =
     cond (eqb interface 0) path
-    (clearIngressAlert (stepped path (stepsAtIngress path interface)) (consDir (info path)) (currHf path))
+    (clearIngressAlert (stepped path (stepsAtIngress edition path interface)) (consDir (info path)) (currHf path))
 
-unfoldable pub ingressMove : List ℕ → ℕ → Bool → List ℕ
-ingressMove path interface change =
+unfoldable pub ingressMove : Edition → List ℕ → ℕ → Bool → List ℕ
+ingressMove edition path interface change =
     cond change
-    (setCurrInf (setCurrHf (ingressFields path interface) (currHf path + 1)) (currInf path + 1))
-    (ingressFields path interface)
+    (setCurrInf (setCurrHf (ingressFields edition path interface) (currHf path + 1)) (currInf path + 1))
+    (ingressFields edition path interface)
 
 -- ---- what is done with the packet
 
@@ -108,13 +109,13 @@ decided Valid action = action
 decided (Invalid why) action = Refused why
 
 -- from 9 on the bytes are moved whatever is answered
-unfoldable pub ingress : List ℕ → List ℕ → MacFunction → StandardValidator → List ℕ → Outcome IngressNextAction
-ingress ids states mac at path =
+unfoldable pub ingress : Edition → List ℕ → List ℕ → MacFunction → StandardValidator → List ℕ → Outcome IngressNextAction
+ingress edition ids states mac at path =
     asks Refused (firstNo (before ids states path)) path
-    (asks Refused (firstNo (ingressPlace path)) path
+    (asks Refused (firstNo (ingressPlace edition path)) path
     (record {
       answer =
-          decided (firstNo (ingressQuestions ids states mac at path (changes path)))
-          (ingressAction path (at .«current_interface_id») (changes path) (isFinal path));
-      bytes = ingressMove path (at .«current_interface_id») (changes path);
+          decided (firstNo (ingressQuestions edition ids states mac at path (changes edition path)))
+          (ingressAction path (at .«current_interface_id») (changes edition path) (isFinal path));
+      bytes = ingressMove edition path (at .«current_interface_id») (changes edition path);
     }))

@@ -1,8 +1,8 @@
--- 01, 'Questions in order': questions 1 to 8 and 18, which find out where the path stands. A no leaves the bytes as they are.
+-- 01, 'Questions in order': questions 1 to 8, 18 and 28, which find out where the path stands. A no leaves the bytes as they are.
 -- Assumes nothing.
 use Prim.Native.Nat.{ℕ, _+_}
 use mathlib.Core.Bool.{Bool, not, _&&_, _||_}
-use mathlib.Core.List.{List, [], _∷_}
+use mathlib.Core.List.{List, [], _∷_, _++_}
 use lib.Dec.{eqb, ltb, leb}
 use Rattle.standard_path.specs.Fields.{currInf, currHf, seg0Len, seg1Len, seg2Len}
 use Rattle.standard_path.specs.Header.{infos, hops, metaThere, fieldsThere, hopsFew, segmentOf, segmentStart, segmentEnd}
@@ -10,6 +10,8 @@ use Rattle.interface_table.specs.Table.{tableSound}
 use Rattle.validator.specs.Questions.{Questions}
 use Rattle.validator.specs.declared.answer.Validation.{Validation}
 use Rattle.validator.specs.declared.answer.Validation.the-variants.{Valid, Invalid}
+use Rattle.edition.specs.declared.Edition.{Edition}
+use Rattle.edition.specs.Edition.{peeringPath, firstPeeringHop, peeringHop, peeringQuestions}
 use Rattle.routing.specs.declared.place.Located.{Located}
 use Rattle.routing.specs.declared.place.Located.the-variants.{Here, Nowhere}
 use Rattle.validator.specs.declared.answer.AdvanceError.the-variants.{HopOutOfBounds, InfoOutOfBounds, InvalidSegmentIndex, SingleHopSegment, SegmentEnd}
@@ -45,31 +47,47 @@ isFinal path = leb (hops path) (currHf path + 1)
 abbrev pub alone : List ℕ → Bool
 alone path = starts path && ends path
 
--- it makes a segment change: it ends its segment and not the path
-abbrev pub changes : List ℕ → Bool
-changes path = ends path && not (isFinal path)
+-- a peering hop; and the first of the two
+abbrev pub isPeeringHop : Edition → List ℕ → Bool
+isPeeringHop edition path = peeringHop edition path (currHf path)
 
--- ---- ingress: 5, 6, 7, 8
+abbrev pub crosses : Edition → List ℕ → Bool
+crosses edition path = firstPeeringHop edition path (currHf path)
 
-abbrev pub ingressPlace : List ℕ → Questions
-ingressPlace path =
+-- it makes a segment change: it ends its segment and not the path. A peering hop makes none
+abbrev pub changes : Edition → List ℕ → Bool
+changes edition path = not (isPeeringHop edition path) && (ends path && not (isFinal path))
+
+-- ---- ingress: 5, 6, 7, 8, 28
+
+abbrev pub ingressPlace : Edition → List ℕ → Questions
+ingressPlace edition path =
     (ltb (currHf path) (hops path), AdvanceFailed (HopOutOfBounds (currHf path)))
-    ∷ (not (alone path), AdvanceFailed SingleHopSegment)
+    ∷ (peeringPath edition path || not (alone path), AdvanceFailed SingleHopSegment)
     ∷ (eqb (segment path) (currInf path), AdvanceFailed (InvalidSegmentIndex (segment path) (currInf path)))
     ∷ (ltb (currInf path) (infos path), AdvanceFailed (InfoOutOfBounds (currInf path)))
-    ∷ (not (changes path) || ltb (segment path + 1) (infos path), AdvanceFailed (InfoOutOfBounds (segment path + 1)))
-    ∷ []
+    ∷ (not (changes edition path) || ltb (segment path + 1) (infos path), AdvanceFailed (InfoOutOfBounds (segment path + 1)))
+    ∷ peeringQuestions edition path
 
--- ---- egress: 5, 7, 8, 5 for the next hop, 18
+-- ---- egress: 5, 7, 8, 28, 5 for the next hop, 18
 
-abbrev pub egressPlace : List ℕ → Questions
-egressPlace path =
+-- the hop and its info field
+abbrev pub placeQuestions : List ℕ → Questions
+placeQuestions path =
     (ltb (currHf path) (hops path), AdvanceFailed (HopOutOfBounds (currHf path)))
     ∷ (eqb (segment path) (currInf path), AdvanceFailed (InvalidSegmentIndex (segment path) (currInf path)))
     ∷ (ltb (currInf path) (infos path), AdvanceFailed (InfoOutOfBounds (currInf path)))
-    ∷ (not (isFinal path), AdvanceFailed (HopOutOfBounds (currHf path + 1)))
-    ∷ (not (ends path), AdvanceFailed SegmentEnd)
     ∷ []
+
+-- another hop, in this segment or over the peering link
+abbrev pub wayQuestions : Edition → List ℕ → Questions
+wayQuestions edition path =
+    (not (isFinal path), AdvanceFailed (HopOutOfBounds (currHf path + 1)))
+    ∷ (crosses edition path || not (ends path), AdvanceFailed SegmentEnd)
+    ∷ []
+
+abbrev pub egressPlace : Edition → List ℕ → Questions
+egressPlace edition path = placeQuestions path ++ (peeringQuestions edition path ++ wayQuestions edition path)
 
 -- ---- for the contract of an inner function: whether it `changes` segment and is the last hop, or why the path cannot go on
 

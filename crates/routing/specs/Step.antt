@@ -17,6 +17,7 @@ use Rattle.validator.specs.declared.answer.IngressNextAction.the-variants.{Cont
 use Rattle.validator.specs.declared.answer.AsRoutingAction.the-variants.{ForwardNextHop}
 use Rattle.validator.specs.declared.answer.StepAnswer.{StepAnswer}
 use Rattle.validator.specs.declared.answer.StepAnswer.the-variants.{Action, Refused}
+use Rattle.edition.specs.declared.Edition.{Edition}
 use Rattle.routing.specs.Outcome.{Outcome, asks}
 use Rattle.routing.specs.Ingress.{info, ingress}
 use Rattle.routing.specs.Egress.{egress}
@@ -44,10 +45,10 @@ leavingQuestions listed out path =
     ∷ []
 
 -- 15 and 17, then egress
-abbrev pub leave : List ℕ → List ℕ → MacFunction → StandardValidator → List ℕ → Outcome StepAnswer
-leave ids states mac at path =
+abbrev pub leave : Edition → List ℕ → List ℕ → MacFunction → StandardValidator → List ℕ → Outcome StepAnswer
+leave edition ids states mac at path =
     asks Refused (firstNo (leavingQuestions (stateOf ids states (at .«current_interface_id»)) (at .«current_interface_id») path)) path
-    (egress ids states mac at path)
+    (egress edition ids states mac at path)
 
 -- the answer of an ingress that does not go on. `stepFrom` asks it of no other; the last line is there since a function has to answer
 unfoldable pub finished : IngressNextAction → StepAnswer
@@ -56,13 +57,13 @@ finished (Stopped why) = Refused why
 finished (ContinueEgress out) = Action (ForwardNextHop out)
 
 -- from what ingress answered, on the bytes that it left
-unfoldable pub stepFrom : IngressNextAction → List ℕ → List ℕ → MacFunction → ℕ → Bool → List ℕ → Outcome StepAnswer
-stepFrom (ContinueEgress out) ids states mac time ignored path = leave ids states mac (atEgress out time ignored) path
-stepFrom (Complete action) ids states mac time ignored path = record { answer = finished (Complete action); bytes = path }
-stepFrom (Stopped why) ids states mac time ignored path = record { answer = finished (Stopped why); bytes = path }
+unfoldable pub stepFrom : Edition → IngressNextAction → List ℕ → List ℕ → MacFunction → ℕ → Bool → List ℕ → Outcome StepAnswer
+stepFrom edition (ContinueEgress out) ids states mac time ignored path = leave edition ids states mac (atEgress out time ignored) path
+stepFrom edition (Complete action) ids states mac time ignored path = record { answer = finished (Complete action); bytes = path }
+stepFrom edition (Stopped why) ids states mac time ignored path = record { answer = finished (Stopped why); bytes = path }
 
--- the whole step of an AS on a path: its table, the hop MAC under its key, the interface that the packet came in by, the time
-unfoldable pub step : List ℕ → List ℕ → MacFunction → ℕ → ℕ → Bool → List ℕ → Outcome StepAnswer
-step ids states mac interface time ignored path =
-    let outcome = ingress ids states mac (atIngress interface time ignored) path in
-    stepFrom (outcome .answer) ids states mac time ignored (outcome .bytes)
+-- the whole step of an AS on a path, in an edition: its table, the hop MAC under its key, the interface that the packet came in by, the time
+unfoldable pub step : Edition → List ℕ → List ℕ → MacFunction → ℕ → ℕ → Bool → List ℕ → Outcome StepAnswer
+step edition ids states mac interface time ignored path =
+    let outcome = ingress edition ids states mac (atIngress interface time ignored) path in
+    stepFrom edition (outcome .answer) ids states mac time ignored (outcome .bytes)

@@ -10,6 +10,7 @@ use crate::ingress;
 use crate::place;
 use aes_cmac::aes;
 use aes_cmac::cmac;
+use edition::Edition;
 use standard_path::mac::ForwardingKey;
 use standard_path::moves;
 use standard_path::view;
@@ -20,11 +21,11 @@ use validator::answer::Validation;
 use validator::check::StandardValidator;
 use validator::check::validate_mac;
 ghost use mathlib.Core.Path.{_≡_};
+ghost use Rattle.standard_path.specs.Fields.{currHf, consDir};
+ghost use Rattle.standard_path.specs.Moves.{flagsAt};
 ghost use Rattle.validator.specs.Questions.{firstNo};
-ghost use Rattle.validator.specs.declared.answer.StepAnswer.the-variants.{Refused};
-ghost use Rattle.routing.specs.Outcome.{asks};
-ghost use Rattle.routing.specs.Place.{egressPlace};
-ghost use Rattle.routing.specs.Egress.{egressQuestions, egressMove, egressAction, decided, egress};
+ghost use Rattle.routing.specs.Ingress.{info};
+ghost use Rattle.routing.specs.Egress.{egressQuestions, egressMove, leavingAction, egressAction, decided, egress};
 ghost use Rattle.routing.specs.Step.{keyMac};
 
 // Questions 19, 10, 11 and 12.
@@ -48,11 +49,9 @@ fn validate_egress(forwarding_key: &ForwardingKey, at: StandardValidator, path: 
     validate_mac(&table, round_keys, k1, hop_index, hop, info, segment_id)
 }
 
-fn egress_action(path: &[u8]) -> StepAnswer
-    ensures { λ r. ⌜ r ≡ egressAction (now (path .entry)) ⌝ }
+fn egress_action(hop: &[u8], info: &[u8]) -> StepAnswer
+    ensures { λ r. ⌜ r ≡ leavingAction (now (hop .entry)) (now (info .entry)) ⌝ }
 {
-    let hop = view::curr_hop_field(path);
-    let info = view::curr_info_field(path);
     let out = view::egress_interface(hop, info);
     if view::egress_scmp_alert(hop, info) {
         if out != 0 {
@@ -68,14 +67,20 @@ fn egress_action(path: &[u8]) -> StepAnswer
     })
 }
 
-fn move_egress(path: &mut [u8])
-    ensures { λ _. ⌜ now (path .exit) ≡ egressMove (now (path .entry)) ⌝ }
+fn move_egress(edition: Edition, path: &mut [u8], hop_at: usize, cons_dir: bool)
+    requires { ⌜ («hop_at» ≡ flagsAt (now path) (currHf (now path))) × («cons_dir» ≡ consDir (info (now path))) ⌝ }
+    ensures { λ _. ⌜ now (path .exit) ≡ egressMove edition (now (path .entry)) ⌝ }
 {
     let hop_index = view::curr_hop_field_idx(path);
-    let cons_dir = view::cons_dir(view::curr_info_field(path));
-    ingress::beta_step(path, cons_dir);
-    moves::clear_egress_alert(path, cons_dir, hop_index);
+    let segment = view::curr_info_field_idx(path);
+    let crossing = place::crosses(edition, path);
+    let taken = !place::is_peering_hop(edition, path) & cons_dir;
+    ingress::beta_step(path, hop_at, taken);
+    moves::clear_egress_alert(path, hop_at, cons_dir);
     view::set_curr_hop_field(path, hop_index + 1);
+    if crossing {
+        view::set_curr_info_field(path, segment + 1);
+    }
 }
 
 // The answer, from the path as it came.
@@ -83,48 +88,52 @@ fn decide_egress(forwarding_key: &ForwardingKey, at: StandardValidator, path: &[
     ensures { λ r. ⌜ r ≡ decided (firstNo (egressQuestions (keyMac (now («forwarding_key» .entry))) at (now (path .entry))))
         (egressAction (now (path .entry))) ⌝ }
 {
+    let action = egress_action(view::curr_hop_field(path), view::curr_info_field(path));
     match validate_egress(forwarding_key, at, path) {
-        Validation::Valid => egress_action(path),
+        Validation::Valid => action,
         Validation::Invalid(why) => StepAnswer::Refused(why),
     }
 }
 
 // The egress half, with a validator.
 pub fn advance_egress_with_validator(
+    edition: Edition,
     ids: &[u16],
     states: &[u8],
     forwarding_key: &ForwardingKey,
     at: StandardValidator,
     path: &mut [u8],
 ) -> StepAnswer
-    ensures { λ r. ⌜ r ≡ egress (now (ids .entry)) (now (states .entry))
+    ensures { λ r. ⌜ r ≡ egress edition (now (ids .entry)) (now (states .entry))
         (keyMac (now («forwarding_key» .entry))) at (now (path .entry)) .answer ⌝ }
-    ensures { λ _. ⌜ now (path .exit) ≡ egress (now (ids .entry)) (now (states .entry))
+    ensures { λ _. ⌜ now (path .exit) ≡ egress edition (now (ids .entry)) (now (states .entry))
         (keyMac (now («forwarding_key» .entry))) at (now (path .entry)) .bytes ⌝ }
 {
     if let Validation::Invalid(why) = place::check_before(ids, states, path) {
         return StepAnswer::Refused(why);
     }
-    if let Validation::Invalid(why) = place::locate_egress(path) {
+    let fits = edition::peering_fits(edition, path);
+    let crossing = place::crosses(edition, path);
+    if let Validation::Invalid(why) = place::locate_egress(edition, path, fits, crossing) {
         return StepAnswer::Refused(why);
     }
+    let hop_at = view::hop_field_offset(path, view::curr_hop_field_idx(path));
+    let cons_dir = view::cons_dir(view::curr_info_field(path));
     let answer = decide_egress(forwarding_key, at, path);
-    move_egress(path);
+    move_egress(edition, path, hop_at, cons_dir);
     answer
 }
 
-// The egress half inside the whole step. An ingress that went on has had a yes to 1 to 4 and to 10 to 12 of this hop, and 19 is asked of a
-// call alone.
-pub fn egress_inside(path: &mut [u8]) -> StepAnswer
-    ensures { λ r. ⌜ r ≡ asks Refused (firstNo (egressPlace (now (path .entry)))) (now (path .entry))
-        (record { answer = egressAction (now (path .entry)); bytes = egressMove (now (path .entry)) }) .answer ⌝ }
-    ensures { λ _. ⌜ now (path .exit) ≡ asks Refused (firstNo (egressPlace (now (path .entry)))) (now (path .entry))
-        (record { answer = egressAction (now (path .entry)); bytes = egressMove (now (path .entry)) }) .bytes ⌝ }
+// The egress half inside the whole step, where the path is known to stand. An ingress that went on has had a yes to 1 to 4 and to 10 to 12
+// of this hop, and 19 is asked of a call alone.
+pub fn egress_inside(edition: Edition, path: &mut [u8]) -> StepAnswer
+    ensures { λ r. ⌜ r ≡ egressAction (now (path .entry)) ⌝ }
+    ensures { λ _. ⌜ now (path .exit) ≡ egressMove edition (now (path .entry)) ⌝ }
 {
-    if let Validation::Invalid(why) = place::locate_egress(path) {
-        return StepAnswer::Refused(why);
-    }
-    let answer = egress_action(path);
-    move_egress(path);
+    let hop_at = view::hop_field_offset(path, view::curr_hop_field_idx(path));
+    let info = view::curr_info_field(path);
+    let cons_dir = view::cons_dir(info);
+    let answer = egress_action(view::curr_hop_field(path), info);
+    move_egress(edition, path, hop_at, cons_dir);
     answer
 }

@@ -5,6 +5,7 @@
 // rewritten in Rattle, with contracts; the questions are asked before anything else is done.
 // Copyright 2026 Anapaya Systems
 // Licensed under the Apache License, Version 2.0: see NOTICE.
+use edition::Edition;
 use standard_path::view;
 use standard_path::view::HeaderCheck;
 use standard_path::view::SegmentIndex;
@@ -13,7 +14,9 @@ use validator::answer::StandardRoutingError;
 use validator::answer::Validation;
 ghost use mathlib.Core.Path.{_≡_};
 ghost use Rattle.validator.specs.Questions.{firstNo};
-ghost use Rattle.routing.specs.Place.{before, headerQuestions, ingressPlace, egressPlace, located, changes, isFinal};
+ghost use Rattle.edition.specs.Edition.{peeringFits, peeringQuestions};
+ghost use Rattle.routing.specs.Place.{before, headerQuestions, ingressPlace, egressPlace};
+ghost use Rattle.routing.specs.Place.{located, changes, crosses, isFinal, isPeeringHop};
 
 // Where the path stands: whether its hop makes a segment change, and whether it is the path's last.
 pub enum Located {
@@ -61,16 +64,41 @@ fn is_final(path: &[u8]) -> bool
     view::hop_field_count(path) <= view::curr_hop_field_idx(path) + 1
 }
 
-// Questions 5 to 8.
-pub fn locate_ingress(path: &[u8]) -> Located
-    ensures { λ r. ⌜ r ≡ located (firstNo (ingressPlace (now (path .entry))))
-        (changes (now (path .entry))) (isFinal (now (path .entry))) ⌝ }
+pub fn is_peering_hop(edition: Edition, path: &[u8]) -> bool
+    ensures { λ r. ⌜ r ≡ isPeeringHop edition (now (path .entry)) ⌝ }
 {
+    edition::is_peering_hop(edition, path, view::curr_hop_field_idx(path))
+}
+
+// The first of the two peering hops: the path goes on in the next segment, over the peering link.
+pub fn crosses(edition: Edition, path: &[u8]) -> bool
+    ensures { λ r. ⌜ r ≡ crosses edition (now (path .entry)) ⌝ }
+{
+    edition::is_first_peering_hop(edition, path, view::curr_hop_field_idx(path))
+}
+
+// Question 28, and then where the path stands.
+fn placed(edition: Edition, path: &[u8], change: bool, last: bool) -> Located
+    ensures { λ r. ⌜ r ≡ located (firstNo (peeringQuestions edition (now (path .entry)))) change last ⌝ }
+{
+    if edition::peering_fits(edition, path) {
+        return Located::Here { change, last };
+    }
+    failed(AdvanceError::MisplacedPeering)
+}
+
+// Questions 5 to 8, and 28.
+pub fn locate_ingress(edition: Edition, path: &[u8]) -> Located
+    ensures { λ r. ⌜ r ≡ located (firstNo (ingressPlace edition (now (path .entry))))
+        (changes edition (now (path .entry))) (isFinal (now (path .entry))) ⌝ }
+{
+    let peers = edition::is_peering_path(edition, path);
+    let peer = is_peering_hop(edition, path);
     let hop = view::curr_hop_field_idx(path);
     let SegmentIndex::At { index, start, end } = view::calculate_segment_index(path, hop) else {
         return failed(AdvanceError::HopOutOfBounds(hop));
     };
-    if start & end {
+    if !(peers | !(start & end)) {
         return failed(AdvanceError::SingleHopSegment);
     }
     let actual = view::curr_info_field_idx(path);
@@ -85,23 +113,24 @@ pub fn locate_ingress(path: &[u8]) -> Located
         return failed(AdvanceError::InfoOutOfBounds(actual));
     }
     let last = is_final(path);
-    if end & !last {
+    if !peer & (end & !last) {
         if infos <= index + 1 {
             return failed(AdvanceError::InfoOutOfBounds(index + 1));
         }
-        return Located::Here { change: true, last };
+        return placed(edition, path, true, last);
     }
-    Located::Here {
-        change: false,
-        last,
-    }
+    placed(edition, path, false, last)
 }
 
-// Questions 5, 7, 8, 5 for the next hop, and 18.
-pub fn locate_egress(path: &[u8]) -> Validation
-    ensures { λ r. ⌜ r ≡ firstNo (egressPlace (now (path .entry))) ⌝ }
+// Questions 5, 7, 8, 28, 5 for the next hop, and 18. The caller asks what the edition makes of the path, for speed: this function then
+// lends its path to no other.
+pub fn locate_egress(edition: Edition, path: &[u8], fits: bool, crossing: bool) -> Validation
+    requires { ⌜ (fits ≡ peeringFits edition (now path)) × (crossing ≡ crosses edition (now path)) ⌝ }
+    ensures { λ r. ⌜ r ≡ firstNo (egressPlace edition (now (path .entry))) ⌝ }
 {
     let hop = view::curr_hop_field_idx(path);
+    let infos = view::info_field_count(path);
+    let hops = view::hop_field_count(path);
     let SegmentIndex::At {
         index,
         start: _,
@@ -117,14 +146,19 @@ pub fn locate_egress(path: &[u8]) -> Validation
             actual,
         });
     }
-    if view::info_field_count(path) <= actual {
+    if infos <= actual {
         return refused(AdvanceError::InfoOutOfBounds(actual));
     }
-    if is_final(path) {
+    if !fits {
+        return refused(AdvanceError::MisplacedPeering);
+    }
+    if hops <= hop + 1 {
         return refused(AdvanceError::HopOutOfBounds(hop + 1));
     }
     if end {
-        return refused(AdvanceError::SegmentEnd);
+        if !crossing {
+            return refused(AdvanceError::SegmentEnd);
+        }
     }
     Validation::Valid
 }

@@ -7,6 +7,8 @@
 // Licensed under the Apache License, Version 2.0: see NOTICE.
 use crate::egress;
 use crate::ingress;
+use crate::place;
+use edition::Edition;
 use interface_table::Listed;
 use standard_path::mac::ForwardingKey;
 use standard_path::view;
@@ -17,8 +19,13 @@ use validator::answer::StepAnswer;
 use validator::answer::Validation;
 use validator::check::StandardValidator;
 ghost use mathlib.Core.Path.{_≡_};
+ghost use mathlib.Core.Bool.{cond};
+ghost use lib.Dec.{eqb};
+ghost use Rattle.standard_path.specs.Fields.{currHf};
 ghost use Rattle.validator.specs.Questions.{firstNo};
+ghost use Rattle.validator.specs.declared.answer.Validation.the-variants.{Valid};
 ghost use Rattle.interface_table.specs.Table.{stateOf};
+ghost use Rattle.routing.specs.Place.{egressPlace};
 ghost use Rattle.routing.specs.Ingress.{ingress};
 ghost use Rattle.routing.specs.Egress.{egress};
 ghost use Rattle.routing.specs.Step.{keyMac, atIngress, atEgress, leavingQuestions, finished, step};
@@ -26,6 +33,7 @@ ghost use Rattle.routing.specs.Step.{keyMac, atIngress, atEgress, leavin
 // ---- the halves
 
 pub fn standard_path_ingress(
+    edition: Edition,
     ids: &[u16],
     states: &[u8],
     path: &mut [u8],
@@ -34,9 +42,9 @@ pub fn standard_path_ingress(
     forwarding_key: &ForwardingKey,
     ignore_macs: bool,
 ) -> IngressNextAction
-    ensures { λ r. ⌜ r ≡ ingress (now (ids .entry)) (now (states .entry)) (keyMac (now («forwarding_key» .entry)))
+    ensures { λ r. ⌜ r ≡ ingress edition (now (ids .entry)) (now (states .entry)) (keyMac (now («forwarding_key» .entry)))
         (atIngress «ingress_interface_id» time «ignore_macs») (now (path .entry)) .answer ⌝ }
-    ensures { λ _. ⌜ now (path .exit) ≡ ingress (now (ids .entry)) (now (states .entry)) (keyMac (now («forwarding_key» .entry)))
+    ensures { λ _. ⌜ now (path .exit) ≡ ingress edition (now (ids .entry)) (now (states .entry)) (keyMac (now («forwarding_key» .entry)))
         (atIngress «ingress_interface_id» time «ignore_macs») (now (path .entry)) .bytes ⌝ }
 {
     let at = StandardValidator {
@@ -45,10 +53,11 @@ pub fn standard_path_ingress(
         time,
         ignore_macs,
     };
-    ingress::advance_ingress_with_validator(ids, states, forwarding_key, at, path)
+    ingress::advance_ingress_with_validator(edition, ids, states, forwarding_key, at, path)
 }
 
 pub fn standard_path_egress(
+    edition: Edition,
     ids: &[u16],
     states: &[u8],
     path: &mut [u8],
@@ -57,9 +66,9 @@ pub fn standard_path_egress(
     forwarding_key: &ForwardingKey,
     ignore_macs: bool,
 ) -> StepAnswer
-    ensures { λ r. ⌜ r ≡ egress (now (ids .entry)) (now (states .entry)) (keyMac (now («forwarding_key» .entry)))
+    ensures { λ r. ⌜ r ≡ egress edition (now (ids .entry)) (now (states .entry)) (keyMac (now («forwarding_key» .entry)))
         (atEgress «egress_if_id» time «ignore_macs») (now (path .entry)) .answer ⌝ }
-    ensures { λ _. ⌜ now (path .exit) ≡ egress (now (ids .entry)) (now (states .entry)) (keyMac (now («forwarding_key» .entry)))
+    ensures { λ _. ⌜ now (path .exit) ≡ egress edition (now (ids .entry)) (now (states .entry)) (keyMac (now («forwarding_key» .entry)))
         (atEgress «egress_if_id» time «ignore_macs») (now (path .entry)) .bytes ⌝ }
 {
     let at = StandardValidator {
@@ -68,7 +77,7 @@ pub fn standard_path_egress(
         time,
         ignore_macs,
     };
-    egress::advance_egress_with_validator(ids, states, forwarding_key, at, path)
+    egress::advance_egress_with_validator(edition, ids, states, forwarding_key, at, path)
 }
 
 // ---- between them
@@ -95,6 +104,18 @@ fn validate_leaving(ids: &[u16], states: &[u8], out: u16, path: &[u8]) -> Valida
     })
 }
 
+// Where the path stands at egress. Without a segment change ingress has had a yes to all that would be asked.
+fn validate_place(edition: Edition, path: &[u8], hop_index: u8) -> Validation
+    ensures { λ r. ⌜ r ≡ cond (eqb (currHf (now (path .entry))) «hop_index») Valid (firstNo (egressPlace edition (now (path .entry)))) ⌝ }
+{
+    if view::curr_hop_field_idx(path) == hop_index {
+        return Validation::Valid;
+    }
+    let fits = edition::peering_fits(edition, path);
+    let crossing = place::crosses(edition, path);
+    place::locate_egress(edition, path, fits, crossing)
+}
+
 // The answer of an ingress that does not go on.
 fn finish(next_action: IngressNextAction) -> StepAnswer
     ensures { λ r. ⌜ r ≡ finished «next_action» ⌝ }
@@ -115,6 +136,7 @@ fn finish(next_action: IngressNextAction) -> StepAnswer
 // ---- the whole step
 
 pub fn handle_standard_path(
+    edition: Edition,
     ids: &[u16],
     states: &[u8],
     path: &mut [u8],
@@ -123,12 +145,14 @@ pub fn handle_standard_path(
     as_forwarding_key: &ForwardingKey,
     ignore_macs: bool,
 ) -> StepAnswer
-    ensures { λ r. ⌜ r ≡ step (now (ids .entry)) (now (states .entry)) (keyMac (now («as_forwarding_key» .entry)))
+    ensures { λ r. ⌜ r ≡ step edition (now (ids .entry)) (now (states .entry)) (keyMac (now («as_forwarding_key» .entry)))
         «ingress_interface_id» time «ignore_macs» (now (path .entry)) .answer ⌝ }
-    ensures { λ _. ⌜ now (path .exit) ≡ step (now (ids .entry)) (now (states .entry)) (keyMac (now («as_forwarding_key» .entry)))
+    ensures { λ _. ⌜ now (path .exit) ≡ step edition (now (ids .entry)) (now (states .entry)) (keyMac (now («as_forwarding_key» .entry)))
         «ingress_interface_id» time «ignore_macs» (now (path .entry)) .bytes ⌝ }
 {
+    let hop_index = view::curr_hop_field_idx(path);
     let next_action = standard_path_ingress(
+        edition,
         ids,
         states,
         path,
@@ -146,5 +170,8 @@ pub fn handle_standard_path(
     if let Validation::Invalid(why) = validate_leaving(ids, states, egress_interface_id, path) {
         return StepAnswer::Refused(why);
     }
-    egress::egress_inside(path)
+    if let Validation::Invalid(why) = validate_place(edition, path, hop_index) {
+        return StepAnswer::Refused(why);
+    }
+    egress::egress_inside(edition, path)
 }

@@ -1,5 +1,6 @@
 // Each open call with a line for it: the call, the label, the answer and the bytes left.
 use crate::print;
+use edition::Edition;
 use routing::step;
 
 // RFC 4493's key.
@@ -27,7 +28,16 @@ fn run_ingress(
     ignore_macs: bool,
 ) {
     put_label(b"ingress", label);
-    let answer = step::standard_path_ingress(ids, states, path, interface, time, &KEY, ignore_macs);
+    let answer = step::standard_path_ingress(
+        Edition::First,
+        ids,
+        states,
+        path,
+        interface,
+        time,
+        &KEY,
+        ignore_macs,
+    );
     print::put_ingress_answer(answer);
     print::put_left(path);
 }
@@ -42,7 +52,16 @@ fn run_egress(
     ignore_macs: bool,
 ) {
     put_label(b"egress", label);
-    let answer = step::standard_path_egress(ids, states, path, interface, time, &KEY, ignore_macs);
+    let answer = step::standard_path_egress(
+        Edition::First,
+        ids,
+        states,
+        path,
+        interface,
+        time,
+        &KEY,
+        ignore_macs,
+    );
     print::put_answer(answer);
     print::put_left(path);
 }
@@ -57,7 +76,16 @@ fn run_step(
     ignore_macs: bool,
 ) {
     put_label(b"step", label);
-    let answer = step::handle_standard_path(ids, states, path, interface, time, &KEY, ignore_macs);
+    let answer = step::handle_standard_path(
+        Edition::First,
+        ids,
+        states,
+        path,
+        interface,
+        time,
+        &KEY,
+        ignore_macs,
+    );
     print::put_answer(answer);
     print::put_left(path);
 }

@@ -8,7 +8,7 @@ use native.Mathlib.Omega.{arith}
 use lib.ListN.{length, getD, drop, set, length-set}
 use lib.Seq.{getD-set-same, getD-set-other, drop-set-lt}
 use Rattle.standard_path.specs.Layout.{infoOffset, hopOffset}
-use Rattle.standard_path.specs.Fields.{currInf, currHf, consDir, segId, timestamp}
+use Rattle.standard_path.specs.Fields.{currInf, currHf, consDir, peering, segId, timestamp}
 use Rattle.standard_path.specs.Header.{infos, headerSize, infoField, hopField}
 use Rattle.standard_path.specs.Moves.{setSegId}
 use Rattle.standard_path.proofs.Kept.{Kept, kept-trans, infos-kept, set-kept, part-kept, set-info, set-past, info-byte, other-side}
@@ -59,6 +59,10 @@ module _ (path : List ℕ) (i value : ℕ) where
   pub seg-id-cons-dir : (j : ℕ) → consDir (infoField (setSegId path i value) j) ≡ consDir (infoField path j)
   unfolding consDir
   seg-id-cons-dir j = rw (seg-id-info-byte j 0 (omega arith) (λ e. omega arith) (λ e. omega arith))
+
+  pub seg-id-peering : (j : ℕ) → peering (infoField (setSegId path i value) j) ≡ peering (infoField path j)
+  unfolding peering
+  seg-id-peering j = rw (seg-id-info-byte j 0 (omega arith) (λ e. omega arith) (λ e. omega arith))
 
   pub seg-id-timestamp : (j : ℕ) → timestamp (infoField (setSegId path i value) j) ≡ timestamp (infoField path j)
   unfolding timestamp

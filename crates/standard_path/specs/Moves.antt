@@ -23,10 +23,13 @@ withoutIngress flags = flags - flags / 2 % 2 * 2
 abbrev pub flagsAt : List ℕ → ℕ → ℕ
 flagsAt path h = hopOffset (infos path) h
 
+-- the travel-ingress alert cleared in the flags at a place
+abbrev pub alertClearedAt : List ℕ → ℕ → Bool → List ℕ
+alertClearedAt path at c = set path at (byDirection c (withoutIngress (getD path at 0)) (withoutEgress (getD path at 0)))
+
 -- the travel-ingress alert of hop h cleared, and the travel-egress alert
 unfoldable pub clearIngressAlert : List ℕ → Bool → ℕ → List ℕ
-clearIngressAlert path c h =
-    set path (flagsAt path h) (byDirection c (withoutIngress (getD path (flagsAt path h) 0)) (withoutEgress (getD path (flagsAt path h) 0)))
+clearIngressAlert path c h = alertClearedAt path (flagsAt path h) c
 
 -- which alert it is turns round with the direction
 abbrev pub clearEgressAlert : List ℕ → Bool → ℕ → List ℕ

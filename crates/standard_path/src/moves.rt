@@ -4,12 +4,11 @@
 // changed: rewritten in Rattle, with contracts.
 // Copyright 2026 Anapaya Systems
 // Licensed under the Apache License, Version 2.0: see NOTICE.
-use crate::layout::HopFieldLayout;
 use crate::layout::InfoFieldLayout;
-use crate::view;
 ghost use mathlib.Core.Path.{_≡_};
+ghost use mathlib.Core.Bool.{not};
 ghost use Rattle.standard_path.specs.Fields.{byDirection};
-ghost use Rattle.standard_path.specs.Moves.{setSegId, withoutEgress, withoutIngress, clearIngressAlert, clearEgressAlert};
+ghost use Rattle.standard_path.specs.Moves.{setSegId, withoutEgress, withoutIngress, alertClearedAt};
 
 // The SegID of the info field with this index.
 pub fn set_segment_id(path: &mut [u8], index: u8, value: u16)
@@ -32,17 +31,17 @@ fn without_alert(flags: u8, ingress: bool) -> u8
     }
 }
 
-pub fn clear_ingress_alert(path: &mut [u8], cons_dir: bool, hop_idx: u8)
-    ensures { λ _. ⌜ now (path .exit) ≡ clearIngressAlert (now (path .entry)) «cons_dir» «hop_idx» ⌝ }
+// The travel-ingress alert of the hop field that starts at a place, and its travel-egress alert.
+pub fn clear_ingress_alert(path: &mut [u8], at: usize, cons_dir: bool)
+    ensures { λ _. ⌜ now (path .exit) ≡ alertClearedAt (now (path .entry)) at «cons_dir» ⌝ }
 {
-    let at = HopFieldLayout::offset(view::info_field_count(path), hop_idx)
-        + HopFieldLayout::FLAGS as usize;
     let flags = octets::byte_at(path, at);
     octets::put_byte(path, at, without_alert(flags, cons_dir));
 }
 
-pub fn clear_egress_alert(path: &mut [u8], cons_dir: bool, hop_idx: u8)
-    ensures { λ _. ⌜ now (path .exit) ≡ clearEgressAlert (now (path .entry)) «cons_dir» «hop_idx» ⌝ }
+// Which alert it is turns round with the direction.
+pub fn clear_egress_alert(path: &mut [u8], at: usize, cons_dir: bool)
+    ensures { λ _. ⌜ now (path .exit) ≡ alertClearedAt (now (path .entry)) at (not «cons_dir») ⌝ }
 {
-    clear_ingress_alert(path, !cons_dir, hop_idx);
+    clear_ingress_alert(path, at, !cons_dir);
 }

@@ -9,8 +9,8 @@ use crate::layout::InfoFieldLayout;
 use crate::layout::StdPathMetaLayout;
 ghost use mathlib.Core.Path.{_≡_};
 ghost use Prim.Native.Nat.{_+_, _*_, _<_};
-ghost use lib.ListN.{drop};
-ghost use Rattle.standard_path.specs.Layout.{nonzero};
+ghost use lib.ListN.{take, drop};
+ghost use Rattle.standard_path.specs.Layout.{nonzero, hopOffset};
 ghost use Rattle.standard_path.specs.Fields.{currInf, currHf, seg0Len, seg1Len, seg2Len, setCurrInf, setCurrHf};
 ghost use Rattle.standard_path.specs.Fields.{consDir, peering, segId, timestamp, consEgressAlert, consIngressAlert};
 ghost use Rattle.standard_path.specs.Fields.{expTime, consIngress, consEgress, macField, travelIngress, travelEgress};
@@ -118,15 +118,29 @@ pub fn info_field(path: &[u8], index: u8) -> &[u8]
     }
 }
 
+// Where the hop field with this index starts.
+pub fn hop_field_offset(path: &[u8], index: u8) -> usize
+    ensures { λ r. ⌜ r ≡ hopOffset (infos (now (path .entry))) index ⌝ }
+{
+    HopFieldLayout::offset(info_field_count(path), index)
+}
+
+// The hop field that starts at a place.
+pub fn hop_field_at(path: &[u8], at: usize) -> &[u8]
+    ensures { λ r. ⌜ now r ≡ take 12 (drop at (now (path .entry))) ⌝ }
+{
+    let after = rest(path, at);
+    if HopFieldLayout::SIZE_BYTES <= after.len() {
+        &after[..HopFieldLayout::SIZE_BYTES]
+    } else {
+        after
+    }
+}
+
 pub fn hop_field(path: &[u8], index: u8) -> &[u8]
     ensures { λ r. ⌜ now r ≡ hopField (now (path .entry)) index ⌝ }
 {
-    let at = HopFieldLayout::offset(info_field_count(path), index);
-    if at + HopFieldLayout::SIZE_BYTES <= path.len() {
-        &path[at..at + HopFieldLayout::SIZE_BYTES]
-    } else {
-        rest(path, at)
-    }
+    hop_field_at(path, hop_field_offset(path, index))
 }
 
 pub fn curr_info_field(path: &[u8]) -> &[u8]

@@ -5,7 +5,7 @@ use mathlib.Core.Bool.{Bool, true, false}
 use mathlib.Core.List.{List, [], _∷_}
 use lib.ListN.{getD}
 use Rattle.validator.specs.declared.answer.AdvanceError.{AdvanceError}
-use Rattle.validator.specs.declared.answer.AdvanceError.the-variants.{HopOutOfBounds, InfoOutOfBounds, InvalidSegmentIndex, SingleHopSegment, SegmentEnd}
+use Rattle.validator.specs.declared.answer.AdvanceError.the-variants.{HopOutOfBounds, InfoOutOfBounds, InvalidSegmentIndex, SingleHopSegment, SegmentEnd, MisplacedPeering}
 use Rattle.validator.specs.declared.answer.StandardRoutingError.{StandardRoutingError}
 use Rattle.validator.specs.declared.answer.StandardRoutingError.the-variants.{UnsoundTable, MetaTooShort, DataTooShort, TooManyHops, AdvanceFailed, InvalidIngressInterface, InvalidEgressInterface, FutureTimestamp, SegmentExpired, UnknownIngressInterface, UnknownEgressInterface, InvalidMacError, InvalidSegmentChange, EgressInterfaceDown, InvalidScmpAlert}
 
@@ -15,6 +15,7 @@ advanceNumber SingleHopSegment = 6
 advanceNumber (InvalidSegmentIndex expected actual) = 7
 advanceNumber (InfoOutOfBounds index) = 8
 advanceNumber SegmentEnd = 18
+advanceNumber MisplacedPeering = 28
 
 abbrev pub refusalNumber : StandardRoutingError → ℕ
 refusalNumber UnsoundTable = 1
@@ -44,6 +45,7 @@ advanceValues SingleHopSegment = []
 advanceValues (InvalidSegmentIndex expected actual) = expected ∷ actual ∷ []
 advanceValues (InfoOutOfBounds index) = index ∷ []
 advanceValues SegmentEnd = []
+advanceValues MisplacedPeering = []
 
 abbrev pub refusalValues : StandardRoutingError → List ℕ
 refusalValues UnsoundTable = []

@@ -26,6 +26,8 @@ pub enum AdvanceError {
     // The Rust's InvalidPathState, with its two texts.
     SingleHopSegment,
     SegmentEnd,
+    // F-6, second edition: P is set on a path that is no peering path.
+    MisplacedPeering,
 }
 
 // The MACs are numbers of 48 bits: an enum holds no array.

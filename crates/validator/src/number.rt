@@ -16,6 +16,7 @@ fn advance_number(why: AdvanceError) -> u8
         AdvanceError::InvalidSegmentIndex { .. } => 7,
         AdvanceError::InfoOutOfBounds(_) => 8,
         AdvanceError::SegmentEnd => 18,
+        AdvanceError::MisplacedPeering => 28,
     }
 }
 
@@ -60,6 +61,7 @@ fn advance_values(why: AdvanceError) -> [u64; 4]
         }
         AdvanceError::InfoOutOfBounds(index) => [index as u64, 0, 0, 0],
         AdvanceError::SegmentEnd => [0, 0, 0, 0],
+        AdvanceError::MisplacedPeering => [0, 0, 0, 0],
     }
 }
 
@@ -134,6 +136,7 @@ fn advance_value_count(why: AdvanceError) -> u8
         AdvanceError::InvalidSegmentIndex { .. } => 2,
         AdvanceError::InfoOutOfBounds(_) => 1,
         AdvanceError::SegmentEnd => 0,
+        AdvanceError::MisplacedPeering => 0,
     }
 }
 

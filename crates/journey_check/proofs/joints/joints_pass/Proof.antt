@@ -10,10 +10,10 @@ use Rattle.journey_check.proofs.joints.joints_pass.Statement.{statement
 use Rattle.journey_check.proofs.joints.joints_pass.Tie as tie
 
 abbrev Inv-loop : tie.InvT-loop
-Inv-loop itinerary path infos segment₀ segment = Asked (jointPasses (stations narrow itinerary) path) (infos - 1) segment
+Inv-loop edition itinerary path infos segment₀ segment = Asked (jointPasses edition (stations narrow itinerary) path) (infos - 1) segment
 
 abbrev μ-loop : tie.MeasureT-loop
-μ-loop itinerary path infos segment₀ segment = infos - segment
+μ-loop edition itinerary path infos segment₀ segment = infos - segment
 
 loop-holds : tie.Need-loop-holds Inv-loop μ-loop
 loop-holds c = asked-none _ _

@@ -7,29 +7,42 @@ use Rattle.journey_check.proofs.questions.passes_with.Tie as tie
 
 returns : tie.Need-returns
 unfolding passes
-returns c = rw (← c .before .lengths-fit .ensures, not-true (c .before .lengths-fit .result) (c .if1 .taken))
-
-segments-pass-requires : tie.Need-segments-pass-requires
-segments-pass-requires c κs =
-    let pre = c .before .before .before .before .pre in
-    let fit = sym (c .before .lengths-fit .ensures) ∙ not-false (c .before .lengths-fit .result) (c .if1 .left) in
-    (pre .0, record { fit = fit; counted = pre .1 })
-
-joints-pass-requires : tie.Need-joints-pass-requires
-joints-pass-requires c κs =
-    let lengths-fit = c .before .before .lengths-fit in
-    let pre = c .before .before .before .before .before .pre in
-    let fit = sym (lengths-fit .ensures) ∙ not-false (lengths-fit .result) (c .before .if1 .left) in
-    record { fit = fit; counted = pre .1 }
+returns c = rw (← c .before .peering-fits .ensures, not-true (c .before .peering-fits .result) (c .if1 .taken))
 
 returns-2 : tie.Need-returns-2
 unfolding passes
 returns-2 c =
-    let lengths-fit = c .before .before .before .lengths-fit in
-    let if1 = c .before .before .if1 in
+    let fits = c .before .before .before .peering-fits in
+    let lengths-pass = c .before .lengths-pass in
     rw (
-      ← lengths-fit .ensures,
-      not-false (lengths-fit .result) (if1 .left),
+      ← fits .ensures,
+      not-false (fits .result) (c .before .before .if1 .left),
+      ← lengths-pass .ensures,
+      not-true (lengths-pass .result) (c .if2 .taken),
+    )
+
+segments-pass-requires : tie.Need-segments-pass-requires
+segments-pass-requires c κs =
+    let lengths-pass = c .before .lengths-pass in
+    let pre = c .before .before .before .before .before .before .pre in
+    (pre .0, record { fit = sym (lengths-pass .ensures) ∙ not-false (lengths-pass .result) (c .if2 .left); counted = pre .1 })
+
+joints-pass-requires : tie.Need-joints-pass-requires
+joints-pass-requires c κs =
+    let lengths-pass = c .before .before .lengths-pass in
+    let pre = c .before .before .before .before .before .before .before .pre in
+    record { fit = sym (lengths-pass .ensures) ∙ not-false (lengths-pass .result) (c .before .if2 .left); counted = pre .1 }
+
+returns-3 : tie.Need-returns-3
+unfolding passes
+returns-3 c =
+    let fits = c .before .before .before .before .before .peering-fits in
+    let lengths-pass = c .before .before .before .lengths-pass in
+    rw (
+      ← fits .ensures,
+      not-false (fits .result) (c .before .before .before .before .if1 .left),
+      ← lengths-pass .ensures,
+      not-false (lengths-pass .result) (c .before .before .if2 .left),
       ← c .before .segments-pass .ensures,
       ← c .joints-pass .ensures,
     )
@@ -37,4 +50,11 @@ returns-2 c =
 pub passes-with-spec : {M : Type 1} → statement M
 passes-with-spec =
     tie.close
-    (tie.spec (λ c κs. search needs) returns segments-pass-requires joints-pass-requires returns-2)
+    (tie.spec
+    (λ c κs. search needs)
+    returns
+    (λ c κs. search needs)
+    returns-2
+    segments-pass-requires
+    joints-pass-requires
+    returns-3)

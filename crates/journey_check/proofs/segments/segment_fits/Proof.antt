@@ -9,21 +9,21 @@ use Rattle.journey_check.proofs.segments.segment_fits.Statement.{statem
 use Rattle.journey_check.proofs.segments.segment_fits.Tie as tie
 
 abbrev Inv-loop : tie.InvT-loop
-Inv-loop table itinerary first earliest latest path segment count station₀ segment-id₀ hop₀ station segment-id hop =
-    Walked itinerary first latest path segment station segment-id hop
+Inv-loop edition table itinerary first earliest latest path segment count station₀ segment-id₀ hop₀ station segment-id hop =
+    Walked edition itinerary first latest path segment station segment-id hop
 
 abbrev μ-loop : tie.MeasureT-loop
-μ-loop table itinerary first earliest latest path segment count station₀ segment-id₀ hop₀ station segment-id hop = count - hop
+μ-loop edition table itinerary first earliest latest path segment count station₀ segment-id₀ hop₀ station segment-id hop = count - hop
 
 returns : tie.Need-returns Inv-loop μ-loop
 returns c =
     let info-field = c .before .before .info-field in
-    segment-early _ _ _ _ _ _ (c .before .timestamp .ensures ∙ ap timestamp (info-field .ensures)) (c .if1 .taken)
+    segment-early _ _ _ _ _ _ _ (c .before .timestamp .ensures ∙ ap timestamp (info-field .ensures)) (c .if1 .taken)
 
 loop-holds : tie.Need-loop-holds Inv-loop μ-loop
 loop-holds c =
     let info-field = c .before .before .before .before .info-field in
-    walked-none _ _ _ _ _ (c .segment-id .ensures ∙ ap segId (info-field .ensures))
+    walked-none _ _ _ _ _ _ (c .segment-id .ensures ∙ ap segId (info-field .ensures))
 
 chained-segment-id-requires : tie.Need-chained-segment-id-requires Inv-loop μ-loop
 chained-segment-id-requires c κs =
@@ -44,7 +44,7 @@ returns-2 c =
     let if1 = c .before .before .before .before .before .before .before .if1 in
     let hop-count = c .before .before .before .before .before .before .hop-count in
     let walked = loop .inv in
-    segment-begun _ _ _ _ _ _ (read .ensures ∙ ap timestamp (info-field .ensures)) (if1 .left)
+    segment-begun _ _ _ _ _ _ _ (read .ensures ∙ ap timestamp (info-field .ensures)) (if1 .left)
     (asked-no (walked .asked) (omega (arith, hop-count .ensures .0)) (rw (walked .reached) at (c .before .hop-fits .ensures))
     (c .if2 .taken))
 
@@ -69,7 +69,7 @@ returns-3 c =
     let info-field = c .before .before .before .before .before .before .info-field in
     let if1 = c .before .before .before .before .if1 in
     let hop-count = c .before .before .before .hop-count in
-    segment-begun _ _ _ _ _ _ (read .ensures ∙ ap timestamp (info-field .ensures)) (if1 .left)
+    segment-begun _ _ _ _ _ _ _ (read .ensures ∙ ap timestamp (info-field .ensures)) (if1 .left)
     (asked-all (c .before .loop .inv .asked) (omega (arith, hop-count .ensures .0)))
 
 pub segment-fits-spec : {M : Type 1} → statement M

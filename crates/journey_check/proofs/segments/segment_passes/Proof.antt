@@ -8,12 +8,12 @@ use Rattle.journey_check.proofs.segments.segment_passes.Tie as tie
 first-station-requires : tie.Need-first-station-requires
 first-station-requires c κs =
     let pre = c .before .before .pre in
-    starts-behind narrow _ _ (pre .1 .0) _ (pre .1 .1)
+    starts-behind narrow _ _ _ (pre .1 .0) _ (pre .1 .1)
 
 returns : tie.Need-returns
 returns c =
     let pre = c .before .before .before .before .pre in
-    c .segment-fits .ensures ∙ segment-read narrow _ _ (pre .1 .0) _ _ _ (pre .1 .1) (c .before .first-station .ensures)
+    c .segment-fits .ensures ∙ segment-read narrow _ _ _ (pre .1 .0) _ _ _ (pre .1 .1) (c .before .first-station .ensures)
 
 pub segment-passes-spec : {M : Type 1} → statement M
 segment-passes-spec = tie.close (tie.spec first-station-requires (λ c κs. search needs) returns)

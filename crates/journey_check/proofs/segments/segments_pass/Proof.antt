@@ -10,11 +10,11 @@ use Rattle.journey_check.proofs.segments.segments_pass.Statement.{state
 use Rattle.journey_check.proofs.segments.segments_pass.Tie as tie
 
 abbrev Inv-loop : tie.InvT-loop
-Inv-loop table itinerary earliest latest path infos segment₀ segment =
-    Asked (segmentPasses (stations narrow itinerary) earliest latest path) infos segment
+Inv-loop edition table itinerary earliest latest path infos segment₀ segment =
+    Asked (segmentPasses edition (stations narrow itinerary) earliest latest path) infos segment
 
 abbrev μ-loop : tie.MeasureT-loop
-μ-loop table itinerary earliest latest path infos segment₀ segment = infos - segment
+μ-loop edition table itinerary earliest latest path infos segment₀ segment = infos - segment
 
 loop-holds : tie.Need-loop-holds Inv-loop μ-loop
 loop-holds c = asked-none _ _

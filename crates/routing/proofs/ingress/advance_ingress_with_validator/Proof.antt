@@ -19,7 +19,13 @@ returns-2 c =
     let check-before = c .before .before .before .before .before .before .before .check-before in
     let enum-told = c .before .before .before .before .before .enum-told in
     let locate-ingress = c .before .before .before .locate-ingress in
-    rw (← check-before .ensures, enum-told .given .1, located-nowhere (firstNo (ingressPlace (now (args .path)))) (changes (now (args .path))) (isFinal (now (args .path))) (sym (locate-ingress .ensures) ∙ c .before .why2 .given .1)) (refl, refl)
+    rw (
+      ← check-before .ensures,
+      enum-told .given .1,
+      located-nowhere (firstNo (ingressPlace (args .edition) (now (args .path))))
+          (changes (args .edition) (now (args .path))) (isFinal (now (args .path))) (sym (locate-ingress .ensures) ∙ c .before .why2 .given .1),
+    )
+    (refl, refl)
 
 returns-3 : tie.Need-returns-3
 unfolding ingress
@@ -30,7 +36,8 @@ returns-3 c =
     let locate-ingress = c .before .before .before .before .before .before .before .locate-ingress in
     let change = c .before .before .before .before .before .change in
     let ingress-here = c .before .before .ingress-here in
-    let s = located-here (firstNo (ingressPlace (now (args .path)))) (changes (now (args .path))) (isFinal (now (args .path))) (sym (locate-ingress .ensures) ∙ change .given .1) in
+    let s = located-here (firstNo (ingressPlace (args .edition) (now (args .path)))) (changes (args .edition) (now (args .path)))
+    (isFinal (now (args .path))) (sym (locate-ingress .ensures) ∙ change .given .1) in
     rw (← check-before .ensures, enum-told .given .1, s .valid, s .changed, s .ended) (ingress-here .ensures .0, ingress-here .ensures .1)
 
 pub advance-ingress-with-validator-spec : {M : Type 1} → statement M

@@ -1,15 +1,21 @@
 use borrow.Author.Needs.{needs}
+use Rattle.standard_path.specs.Header.{hopField}
 use Rattle.routing.specs.Ingress.{stepped}
 use Rattle.routing.proofs.ingress.beta_step.Statement.{statement}
 use Rattle.routing.proofs.ingress.beta_step.Tie as tie
 
 returns : tie.Need-returns
-unfolding stepped
+unfolding stepped hopField
 returns c =
-    let if1 = c .before .before .before .before .before .before .before .before .if1 in
-    let curr-info-field-idx = c .before .before .before .before .before .before .curr-info-field-idx in
+    let pre = c .before .before .before .before .before .before .before .before .before .before .before .before .pre in
+    let if1 = c .before .before .before .before .before .before .before .before .before .before .if1 in
+    let curr-info-field-idx = c .before .before .before .before .before .before .before .before .curr-info-field-idx in
+    let hop-field-at = c .before .before .before .before .before .before .hop-field-at in
+    let curr-info-field = c .before .before .before .before .before .curr-info-field in
     let stepped-segment-id = c .before .before .before .before .stepped-segment-id in
-    rw (if1 .taken) (rw (stepped-segment-id .ensures, curr-info-field-idx .ensures) at (c .before .before .set-segment-id .ensures))
+    rw (if1 .taken)
+    (rw (stepped-segment-id .ensures, hop-field-at .ensures, curr-info-field .ensures, curr-info-field-idx .ensures, pre) at
+    (c .before .before .set-segment-id .ensures))
 
 returns-2 : tie.Need-returns-2
 unfolding stepped
@@ -19,6 +25,8 @@ pub beta-step-spec : {M : Type 1} → statement M
 beta-step-spec =
     tie.close
     (tie.spec
+    (λ c κs. search needs)
+    (λ c κs. search needs)
     (λ c κs. search needs)
     (λ c κs. search needs)
     (λ c κs. search needs)

@@ -3,17 +3,23 @@ use Rattle.routing.proofs.ingress.ingress_segment_id.Statement.{stateme
 use Rattle.routing.proofs.ingress.ingress_segment_id.Tie as tie
 
 returns : tie.Need-returns
-returns c = rw (← c .before .before .steps-at-ingress .ensures, c .before .if1 .taken) (c .stepped-segment-id .ensures)
+returns c =
+    let steps-at-ingress = c .before .before .before .before .steps-at-ingress in
+    let if1 = c .before .before .before .if1 in
+    rw (← steps-at-ingress .ensures, if1 .taken, ← c .before .before .curr-hop-field .ensures, ← c .before .curr-info-field .ensures)
+    (c .stepped-segment-id .ensures)
 
 returns-2 : tie.Need-returns-2
 returns-2 c =
     let steps-at-ingress = c .before .before .before .steps-at-ingress in
-    rw (← steps-at-ingress .ensures, c .before .before .if1 .left, ← c .before .curr-info-field .ensures) (c .segment-id .ensures)
+    rw (← steps-at-ingress .ensures, c .before .before .if1 .left, ← c .before .curr-info-field2 .ensures) (c .segment-id .ensures)
 
 pub ingress-segment-id-spec : {M : Type 1} → statement M
 ingress-segment-id-spec =
     tie.close
     (tie.spec
+    (λ c κs. search needs)
+    (λ c κs. search needs)
     (λ c κs. search needs)
     (λ c κs. search needs)
     returns

@@ -4,6 +4,9 @@ use Rattle.routing.specs.Ingress.{ingressMove}
 use Rattle.routing.proofs.ingress.move_ingress.Statement.{statement}
 use Rattle.routing.proofs.ingress.move_ingress.Tie as tie
 
+move-fields-requires : tie.Need-move-fields-requires
+move-fields-requires c κs = c .before .before .before .before .before .before .pre
+
 add-set-curr-info-field : tie.Need-add-set-curr-info-field
 add-set-curr-info-field c =
     let slice-known = c .before .before .before .before .before .before .before .before .before .before .before .before .before .before .slice-known in
@@ -18,7 +21,8 @@ returns c =
     let if1 = c .before .before .before .before .before .before .before .before .if1 in
     let set-curr-hop-field = c .before .before .before .before .before .before .set-curr-hop-field in
     rw (if1 .taken)
-    (rw (set-curr-hop-field .ensures, move-fields .ensures, curr-hop-field-idx .ensures, curr-info-field-idx .ensures) at (c .before .before .set-curr-info-field .ensures))
+    (rw (set-curr-hop-field .ensures, move-fields .ensures, curr-hop-field-idx .ensures, curr-info-field-idx .ensures) at
+    (c .before .before .set-curr-info-field .ensures))
 
 returns-2 : tie.Need-returns-2
 unfolding ingressMove
@@ -30,7 +34,7 @@ move-ingress-spec =
     (tie.spec
     (λ c κs. search needs)
     (λ c κs. search needs)
-    (λ c κs. search needs)
+    move-fields-requires
     (λ c. search needs)
     (λ c κs. search needs)
     add-set-curr-info-field

@@ -3,18 +3,8 @@ use Rattle.routing.proofs.ingress.stepped_segment_id.Statement.{stateme
 use Rattle.routing.proofs.ingress.stepped_segment_id.Tie as tie
 
 returns : tie.Need-returns
-returns c =
-    let curr-info-field = c .before .before .before .before .curr-info-field in
-    let segment-id = c .before .before .before .segment-id in
-    rw (segment-id .ensures, c .before .mac .ensures, curr-info-field .ensures, c .before .before .curr-hop-field .ensures) at (c .mac-beta-step .ensures)
+returns c = rw (c .before .before .segment-id .ensures, c .before .mac .ensures) at (c .mac-beta-step .ensures)
 
 pub stepped-segment-id-spec : {M : Type 1} → statement M
 stepped-segment-id-spec =
-    tie.close
-    (tie.spec
-    (λ c κs. search needs)
-    (λ c κs. search needs)
-    (λ c κs. search needs)
-    (λ c κs. search needs)
-    (λ c κs. search needs)
-    returns)
+    tie.close (tie.spec (λ c κs. search needs) (λ c κs. search needs) (λ c κs. search needs) returns)

@@ -13,7 +13,8 @@ returns c =
     let curr-hop-field-idx = c .before .before .before .before .before .curr-hop-field-idx in
     let curr-hop-field = c .before .before .before .before .curr-hop-field in
     let curr-info-field = c .before .before .before .curr-info-field in
-    let asked = rw (curr-hop-field-idx .ensures, curr-hop-field .ensures, curr-info-field .ensures) at (c .before .before .validate-hop .ensures) in
+    let asked = rw (curr-hop-field-idx .ensures, curr-hop-field .ensures, curr-info-field .ensures) at
+    (c .before .before .validate-hop .ensures) in
     c .enum-told2 .given .1 ∙ sym (stops _ _ _ (sym asked ∙ c .enum-told2 .given .1))
 
 validate-checked-requires : tie.Need-validate-checked-requires
@@ -39,7 +40,10 @@ returns-3 c =
     let enum-told = c .before .before .before .before .enum-told in
     let asked = rw (curr-hop-field-idx .ensures, curr-hop-field .ensures, curr-info-field .ensures) at (validate-hop .ensures) in
     let args = args-fact in
-    rw (c .before .if2 .taken) (c .validate-next .ensures ∙ sym (ingress-changes (keyMac (now (args .forwarding-key))) (args .at) (not-false _ (c .before .before .if1 .left)) (now (args .path)) (sym asked ∙ enum-told .given .1) (now (args .ids)) (now (args .states))))
+    rw (c .before .if2 .taken)
+    (c .validate-next .ensures
+    ∙ sym (ingress-changes (keyMac (now (args .forwarding-key))) (args .at) (not-false _ (c .before .before .if1 .left)) (now (args .path))
+    (sym asked ∙ enum-told .given .1) (args .edition) (now (args .ids)) (now (args .states))))
 
 returns-4 : tie.Need-returns-4
 returns-4 c =
@@ -51,7 +55,8 @@ returns-4 c =
     let enum-told = c .before .before .before .enum-told in
     let asked = rw (curr-hop-field-idx .ensures, curr-hop-field .ensures, curr-info-field .ensures) at (validate-hop .ensures) in
     let args = args-fact in
-    rw (c .if2 .left) (sym (ingress-stays (keyMac (now (args .forwarding-key))) (args .at) (not-false _ (c .before .if1 .left)) (now (args .path)) (sym asked ∙ enum-told .given .1) (now (args .ids)) (now (args .states))))
+    rw (c .if2 .left) (sym (ingress-stays (keyMac (now (args .forwarding-key))) (args .at) (not-false _ (c .before .if1 .left))
+    (now (args .path)) (sym asked ∙ enum-told .given .1) (args .edition) (now (args .ids)) (now (args .states))))
 
 pub validate-ingress-spec : {M : Type 1} → statement M
 validate-ingress-spec =
