@@ -12,16 +12,22 @@
 
 // ---- a call, and the stack it takes
 
-enum { STEP, INGRESS, EGRESS, REVERSE, EXPIRATION, SEGMENT, JOURNEY, CMAC, HOP_MAC, VERSION, CALLS };
+// Those that have editions first, then the same in an edition.
+enum { STEP, INGRESS, EGRESS, JOURNEY, IN_EDITION };
+enum { REVERSE = 2 * IN_EDITION, EXPIRATION, SEGMENT, CMAC, HOP_MAC, VERSION, CALLS };
 
 static const char *const names[CALLS] = {
     "scion_handle_standard_path",
     "scion_standard_path_ingress",
     "scion_standard_path_egress",
+    "scion_check_journey",
+    "scion_handle_standard_path_in_edition",
+    "scion_standard_path_ingress_in_edition",
+    "scion_standard_path_egress_in_edition",
+    "scion_check_journey_in_edition",
     "scion_try_reverse",
     "scion_expiration",
     "scion_calculate_segment_index",
-    "scion_check_journey",
     "scion_aes_cmac",
     "scion_calculate_hop_mac",
     "scion_step_version_1",
@@ -46,7 +52,7 @@ static size_t entries, path_length, itinerary_length, message_length;
 static uint16_t interface;
 static uint32_t now, earliest, latest;
 static uint8_t hop_idx;
-static bool ignore_macs;
+static bool ignore_macs, is_second;
 
 enum { STACK = 1 << 16, PATTERN = 0xA5 };
 
@@ -79,12 +85,28 @@ static void make_call(void) {
         NOTED(reply = scion_standard_path_egress(ids, entries, states, entries, path, path_length, interface, now, key,
                                                  ignore_macs));
         break;
-    case REVERSE: NOTED(reply = scion_try_reverse(path, path_length)); break;
-    case EXPIRATION: NOTED(reply = scion_expiration(path, path_length)); break;
-    case SEGMENT: NOTED(reply = scion_calculate_segment_index(path, path_length, hop_idx)); break;
     case JOURNEY:
         NOTED(reply = scion_check_journey(path, path_length, itinerary, itinerary_length, earliest, latest));
         break;
+    case IN_EDITION + STEP:
+        NOTED(reply = scion_handle_standard_path_in_edition(is_second, ids, entries, states, entries, path, path_length,
+                                                            interface, now, key, ignore_macs));
+        break;
+    case IN_EDITION + INGRESS:
+        NOTED(reply = scion_standard_path_ingress_in_edition(is_second, ids, entries, states, entries, path,
+                                                             path_length, interface, now, key, ignore_macs));
+        break;
+    case IN_EDITION + EGRESS:
+        NOTED(reply = scion_standard_path_egress_in_edition(is_second, ids, entries, states, entries, path, path_length,
+                                                            interface, now, key, ignore_macs));
+        break;
+    case IN_EDITION + JOURNEY:
+        NOTED(reply = scion_check_journey_in_edition(is_second, path, path_length, itinerary, itinerary_length,
+                                                     earliest, latest));
+        break;
+    case REVERSE: NOTED(reply = scion_try_reverse(path, path_length)); break;
+    case EXPIRATION: NOTED(reply = scion_expiration(path, path_length)); break;
+    case SEGMENT: NOTED(reply = scion_calculate_segment_index(path, path_length, hop_idx)); break;
     case CMAC: NOTED(scion_aes_cmac(key, message, message_length, mac)); break;
     case HOP_MAC: NOTED(scion_calculate_hop_mac(0x1234, 1000, 0, 3, 1, key, mac)); break;
     case VERSION: NOTED(version = scion_step_version_1()); break;
@@ -117,6 +139,7 @@ static uint32_t get16(const uint8_t *at) {
 }
 
 static uint32_t infos, hops;
+static bool has_peering; // P in each info field, and a peering link between two segments
 
 static uint8_t *info_at(uint32_t info) {
     return path + SCION_META_BYTES + SCION_INFO_BYTES * info;
@@ -147,17 +170,18 @@ static void put_path(uint32_t first, uint32_t second) {
     for (uint32_t hop = 0; hop < hops; hop++) {
         uint32_t info = hop >= first;
         uint8_t *at = hop_at(hop);
-        if (hop == 0 || hop == first) {
+        bool opens = hop == first, closes = hop + 1 == first, peers = has_peering && (opens || closes);
+        if (hop == 0 || opens) {
             segment_id = 0x1234 + info;
-            info_at(info)[0] = 1;
+            info_at(info)[0] = has_peering ? 3 : 1;
             put16(info_at(info) + 2, segment_id);
             put16(info_at(info) + 6, 1000);
         }
-        put16(at + 2, hop == 0 || hop == first ? 0 : 1);
-        put16(at + 4, hop + 1 == first || hop + 1 == hops ? 0 : 2);
+        put16(at + 2, hop == 0 || (opens && !peers) ? 0 : 1);
+        put16(at + 4, hop + 1 == hops || (closes && !peers) ? 0 : 2);
         scion_calculate_hop_mac((uint16_t)segment_id, 1000, 0, (uint16_t)get16(at + 2), (uint16_t)get16(at + 4), key,
                                 at + 6);
-        segment_id ^= get16(at + 6);
+        if (!peers) segment_id ^= get16(at + 6);
     }
 }
 
@@ -175,9 +199,10 @@ static void stand(uint32_t first, uint32_t second, uint32_t hop) {
     put_path(first, second);
     now = 1337;
     ignore_macs = false;
+    is_second = true;
     for (uint32_t left = 0; left < hop; left++) {
         interface = left == 0 ? 0 : 1;
-        run(STEP);
+        run(has_peering ? IN_EDITION + STEP : STEP);
         CHECK(reply.number == SCION_FORWARD_NEXT_HOP);
     }
     interface = 1;
@@ -197,7 +222,7 @@ static void turn(void) {
 // That path at its start and an itinerary that fits: a station for each AS, the table of the two interfaces for all.
 static void put_journey(uint32_t first, uint32_t second) {
     put_path(first, second);
-    uint32_t stations = hops - infos + 1;
+    uint32_t stations = has_peering && second != 0 ? hops : hops - infos + 1;
     memset(itinerary, 0, sizeof itinerary);
     itinerary_length = (1 + stations + 2) * SCION_RECORD_BYTES;
     put16(record_at(0), 1);
@@ -224,7 +249,7 @@ enum { NONE, DOWN = SCION_SCMP_EXTERNAL_INTERFACE_DOWN * 256 };
 #define PROBLEM(code) (SCION_SCMP_PARAMETER_PROBLEM * 256 + (code))
 
 // Expected are the error, then the values.
-static void expect(int line, int which, unsigned number, const uint64_t *expected, size_t count) {
+static void expect_one(int line, int which, unsigned number, const uint64_t *expected, size_t count) {
     run(which);
     bool same = reply.number == number && reply.count == count - 1 &&
                 reply.scmp_type * 256U + reply.scmp_code == expected[0] &&
@@ -237,8 +262,35 @@ static void expect(int line, int which, unsigned number, const uint64_t *expecte
     fprintf(stderr, ", SCMP %u %u %u\n", reply.scmp_type, reply.scmp_code, (unsigned)reply.scmp_pointer);
 }
 
+// In both editions, too, where the call has them: there is no P, so the answer and the bytes are the same.
+static void expect(int line, int which, unsigned number, const uint64_t *expected, size_t count) {
+    static uint8_t given[sizeof path], left[sizeof path];
+    memcpy(given, path, sizeof path);
+    expect_one(line, which, number, expected, count);
+    if (which >= IN_EDITION) return;
+    memcpy(left, path, sizeof path);
+    for (int second = 0; second < 2; second++) {
+        memcpy(path, given, sizeof path);
+        is_second = second;
+        expect_one(line, IN_EDITION + which, number, expected, count);
+        check(line, memcmp(path, left, sizeof path) == 0);
+    }
+}
+
 #define EXPECT(which, number, ...)                                                                                     \
     expect(__LINE__, which, number, (const uint64_t[]){__VA_ARGS__}, sizeof((const uint64_t[]){__VA_ARGS__}) / 8)
+
+// In one edition, on a path with P.
+#define FIRST(which, ...)                                                                                              \
+    do {                                                                                                               \
+        is_second = false;                                                                                             \
+        EXPECT(IN_EDITION + which, __VA_ARGS__);                                                                       \
+    } while (0)
+#define SECOND(which, ...)                                                                                             \
+    do {                                                                                                               \
+        is_second = true;                                                                                              \
+        EXPECT(IN_EDITION + which, __VA_ARGS__);                                                                       \
+    } while (0)
 
 static void sizes(void) {
     stand(3, 0, 1);
@@ -430,6 +482,74 @@ static void journeys(void) {
     EXPECT(JOURNEY, SCION_UNFIT_ITINERARY, NONE);
 }
 
+// P in an info field of a path that is no peering path: the second edition refuses, and changes nothing.
+static void misplaced(void) {
+    static const int steps[] = {STEP, INGRESS, EGRESS};
+    static uint8_t given[sizeof path];
+    memcpy(given, path, sizeof path);
+    for (int i = 0; i < 3; i++) {
+        SECOND(steps[i], SCION_MISPLACED_PEERING, NONE);
+        CHECK(memcmp(path, given, sizeof path) == 0);
+    }
+}
+
+// Over the peering link, at whose ends hops leave by 2 and are come to by 1.
+static void peerings(void) {
+    has_peering = true;
+    stand(2, 2, 1);
+    SECOND(INGRESS, SCION_CONTINUE_EGRESS, NONE, 2);
+    interface = 2;
+    FIRST(EGRESS, SCION_SEGMENT_END, NONE);
+    SECOND(EGRESS, SCION_FORWARD_NEXT_HOP, NONE, 2);
+    CHECK(path[0] == (1 << 6 | 2)); // both indices are moved
+    CHECK(get16(info_at(1) + 2) == 0x1235);
+    interface = 1;
+    SECOND(STEP, SCION_FORWARD_NEXT_HOP, NONE, 2);
+    CHECK(get16(info_at(1) + 2) == 0x1235); // no beta step
+    stand(2, 2, 3);
+    SECOND(STEP, SCION_FORWARD_LOCAL, NONE);
+    stand(2, 2, 2); // a peering hop's own MAC is checked
+    hop_at(2)[11] ^= 1;
+    run(IN_EDITION + STEP);
+    CHECK(reply.number == SCION_INVALID_MAC_ERROR && reply.values[0] == 2);
+
+    // A segment of one hop.
+    stand(1, 1, 0);
+    interface = 0;
+    FIRST(STEP, SCION_SINGLE_HOP_SEGMENT, NONE);
+    SECOND(STEP, SCION_FORWARD_NEXT_HOP, NONE, 2);
+    CHECK(path[0] == (1 << 6 | 1));
+    interface = 1;
+    SECOND(STEP, SCION_FORWARD_LOCAL, NONE);
+
+    stand(3, 0, 0);
+    interface = 0;
+    misplaced();
+    FIRST(STEP, SCION_FORWARD_NEXT_HOP, NONE, 2);
+    for (uint32_t info = 0; info < 2; info++) {
+        stand(2, 2, 0);
+        interface = 0;
+        info_at(info)[0] = 1;
+        misplaced();
+    }
+    put_header(2, 2, 2);
+    for (uint32_t info = 0; info < SCION_MAX_INFOS; info++) info_at(info)[0] = 2;
+    misplaced();
+
+    // As many stations as hops.
+    put_journey(2, 2);
+    SECOND(JOURNEY, SCION_PASSED, NONE);
+    FIRST(JOURNEY, SCION_UNFIT_ITINERARY, NONE);
+    put_journey(1, 1);
+    SECOND(JOURNEY, SCION_PASSED, NONE);
+    put_journey(SCION_MAX_HOPS / 2, SCION_MAX_HOPS / 2);
+    SECOND(JOURNEY, SCION_PASSED, NONE);
+    put_journey(3, 0);
+    SECOND(JOURNEY, SCION_NOT_PASSED, NONE);
+    FIRST(JOURNEY, SCION_PASSED, NONE);
+    has_peering = false;
+}
+
 // The MAC of no message is that of RFC 4493.
 static void macs(void) {
     static const uint8_t rfc_key[] = {0x2b, 0x7e, 0x15, 0x16, 0x28, 0xae, 0xd2, 0xa6,
@@ -455,6 +575,7 @@ int main(void) {
     actions();
     paths();
     journeys();
+    peerings();
     macs();
     size_t most = 0;
     for (int i = 0; i < CALLS; i++) {

@@ -7,7 +7,8 @@
 // here and there, so that each answer is reached: one that is not, or one that the call never gives, is an error too.
 //
 // Also what the header allows of pointers: null where the length is 0, and arguments that are only read laid over one
-// another.
+// another. And what it says of the editions: the first is the call without one; without P the second is the first; 28
+// is for P on a path that is no peering path.
 //
 // Two numbers can be given: the rounds and the seed. The lines printed are, for each call, its answers and how often
 // each was given.
@@ -114,6 +115,7 @@ static void put32(uint8_t *at, uint32_t value) {
 }
 
 static uint32_t lengths[3], infos, hops;
+static bool has_peering; // the header is that of a peering path
 
 static uint8_t *info_at(uint32_t info) {
     return path + 4 + 8 * info;
@@ -152,15 +154,21 @@ static void put_mac(uint32_t hop, uint32_t info, uint16_t segment_id, const uint
     scion_calculate_hop_mac(segment_id, timestamp, at[1], get16(at + 2), get16(at + 4), hop_key, at + 6);
 }
 
+static bool is_peering_hop(uint32_t hop) {
+    return has_peering && (hop + 1 == lengths[0] || hop == lengths[0]);
+}
+
 // A header with these lengths, and fields with small numbers, without alerts and MACs.
 static void draw_header(void) {
+    has_peering = lengths[0] != 0 && lengths[1] != 0 && lengths[2] == 0 && one_in(2);
+    bool misplaced = one_in(16);
     infos = (lengths[0] != 0) + (lengths[1] != 0) + (lengths[2] != 0);
     hops = lengths[0] + lengths[1] + lengths[2];
     path_length = 4 + 8 * infos + 12 * hops;
     memset(path, 0, path_length);
     put32(path, lengths[0] << 12 | lengths[1] << 6 | lengths[2]);
     for (uint32_t info = 0; info < infos; info++) {
-        info_at(info)[0] = draw(2);
+        info_at(info)[0] = draw(misplaced ? 4 : 2) | (has_peering ? 2 : 0);
         put16(info_at(info) + 2, draw(65536));
         put32(info_at(info) + 4, 1000 + draw(3));
     }
@@ -191,8 +199,9 @@ static void draw_path(bool outside) {
     if (info >= infos) return;
     uint16_t segment_id = get16(info_at(info) + 2);
     put_mac(hop, info, segment_id, key);
-    if (outside && !cons_dir(info)) put16(info_at(info) + 2, segment_id ^ get16(hop_at(hop) + 6));
-    if (is_last && info + 1 < infos) {
+    if (outside && !cons_dir(info) && !is_peering_hop(hop))
+        put16(info_at(info) + 2, segment_id ^ get16(hop_at(hop) + 6));
+    if (is_last && info + 1 < infos && !has_peering) {
         if (one_in(4)) hop_at(hop + 1)[0] = draw(4);
         put16(travel_ingress(hop + 1, info + 1), one_in(8) ? draw(5) : 0);
         put_mac(hop + 1, info + 1, get16(info_at(info + 1) + 2), key);
@@ -260,6 +269,7 @@ static void put_segment_macs(uint32_t info, uint32_t first, uint32_t station) {
     for (uint32_t i = 0; i < lengths[info]; i++) {
         uint32_t walked = cons_dir(info) ? i : lengths[info] - 1 - i;
         put_mac(first + walked, info, segment_id, station_key(station + walked));
+        if (is_peering_hop(first + walked)) continue;
         if (cons_dir(info) || walked != 0) segment_id ^= get16(hop_at(first + walked) + 6);
     }
     if (!cons_dir(info)) put16(info_at(info) + 2, segment_id);
@@ -269,7 +279,7 @@ static void put_segment_macs(uint32_t info, uint32_t first, uint32_t station) {
 static void draw_journey(void) {
     draw_lengths();
     draw_header();
-    uint32_t stations = hops - infos + 1, records = 1 + stations + 5;
+    uint32_t stations = has_peering ? hops : hops - infos + 1, records = 1 + stations + 5;
     if (hops == 0 || hops > 64) stations = 1;
     itinerary_length = records * RECORD;
     memset(itinerary, 0, itinerary_length);
@@ -295,7 +305,7 @@ static void draw_journey(void) {
         }
         put_segment_macs(info, first, station);
         first += lengths[info];
-        station += lengths[info] - 1;
+        station += has_peering ? lengths[info] : lengths[info] - 1;
     }
 }
 
@@ -314,22 +324,32 @@ static void damage_journey(void) {
 
 typedef struct {
     const char *name;
-    uint8_t answers[24]; // those that it can give, 0 behind the last
+    uint8_t answers[25]; // those that it can give, 0 behind the last
     bool has_scmp;
 } Call;
 
-enum { STEP, INGRESS, EGRESS, REVERSE, EXPIRATION, SEGMENT, JOURNEY, CALLS };
+// Those that have editions first, then the same in an edition.
+enum { STEP, INGRESS, EGRESS, JOURNEY, IN_EDITION, REVERSE = 2 * IN_EDITION, EXPIRATION, SEGMENT, CALLS };
 
+// In an edition: the answers of the second.
 static const Call calls[CALLS] = {
     {"scion_handle_standard_path",
      {1, 2, 3, 4, 5, 6, 7, 8, 9, 10, 11, 12, 13, 14, 15, 16, 17, 18, 101, 102, 103, 104},
      true},
     {"scion_standard_path_ingress", {1, 2, 3, 4, 5, 6, 7, 8, 9, 10, 11, 12, 13, 14, 15, 16, 100, 102, 103}, true},
     {"scion_standard_path_egress", {1, 2, 3, 4, 5, 7, 8, 10, 11, 12, 18, 19, 101, 104}, true},
+    {"scion_check_journey", {2, 3, 4, 23, 24, 25, 120, 121}, false},
+    {"scion_handle_standard_path_in_edition",
+     {1, 2, 3, 4, 5, 6, 7, 8, 9, 10, 11, 12, 13, 14, 15, 16, 17, 18, 28, 101, 102, 103, 104},
+     true},
+    {"scion_standard_path_ingress_in_edition",
+     {1, 2, 3, 4, 5, 6, 7, 8, 9, 10, 11, 12, 13, 14, 15, 16, 28, 100, 102, 103},
+     true},
+    {"scion_standard_path_egress_in_edition", {1, 2, 3, 4, 5, 7, 8, 10, 11, 12, 18, 19, 28, 101, 104}, true},
+    {"scion_check_journey_in_edition", {2, 3, 4, 23, 24, 25, 120, 121}, false},
     {"scion_try_reverse", {2, 3, 4, 20, 21, 22, 110}, false},
     {"scion_expiration", {2, 3, 4, 111}, false},
     {"scion_calculate_segment_index", {5, 112}, false},
-    {"scion_check_journey", {2, 3, 4, 23, 24, 25, 120, 121}, false},
 };
 
 static uint64_t counts[CALLS][NUMBERS];
@@ -348,20 +368,79 @@ static void check_reply(const Call *call, ScionReply reply) {
     if (type != 5 && reply.scmp_pointer != 0) fail(call->name, "a pointer that is not 0");
 }
 
+static bool are_same(ScionReply one, ScionReply other) {
+    return one.number == other.number && one.count == other.count &&
+           memcmp(one.values, other.values, sizeof one.values) == 0 && one.scmp_type == other.scmp_type &&
+           one.scmp_code == other.scmp_code && one.scmp_pointer == other.scmp_pointer;
+}
+
 static void check_same(const Call *call, ScionReply one, ScionReply other) {
-    if (one.number != other.number || one.count != other.count ||
-        memcmp(one.values, other.values, sizeof one.values) != 0 || one.scmp_type != other.scmp_type ||
-        one.scmp_code != other.scmp_code || one.scmp_pointer != other.scmp_pointer)
+    if (!are_same(one, other))
         fail(call->name, "an answer that depends on bytes beyond an argument, or on where it lies");
+}
+
+// ---- editions
+
+// A call as it is without an edition, in the first, and in the second.
+enum { PLAIN, FIRST, SECOND, MODES };
+
+static const Call *in_mode(const Call *call, int mode) {
+    return mode == PLAIN ? call : call + IN_EDITION;
+}
+
+// What P is on the path as it is given, whatever it was drawn as.
+enum { NO_P, PEERING, MISPLACED };
+
+static int p_of_path(void) {
+    if (path_length < 4) return NO_P;
+    uint32_t word = (uint32_t)get16(path) << 16 | get16(path + 2);
+    uint32_t first = word >> 12 & 63, second = word >> 6 & 63, third = word & 63, with = 0;
+    uint32_t there = (first != 0) + (second != 0) + (third != 0);
+    for (uint32_t info = 0; info < there; info++) with += 4 + 8 * info < path_length && info_at(info)[0] & 2;
+    return with == 0 ? NO_P : first != 0 && second != 0 && third == 0 && with == 2 ? PEERING : MISPLACED;
+}
+
+static uint64_t without_p, changed_by_p; // calls without P, and those with it that the editions answer otherwise
+
+static void check_editions(const Call *call, const ScionReply replies[MODES], bool same_first, bool same_second) {
+    if (!same_first || !are_same(replies[PLAIN], replies[FIRST]))
+        fail(call->name, "in the first edition it is not the call without one");
+    int p = p_of_path();
+    bool same = same_second && are_same(replies[FIRST], replies[SECOND]);
+    if (p == NO_P && !same) fail(call->name, "the editions differ without P");
+    without_p += p == NO_P;
+    changed_by_p += !same;
+    uint16_t number = replies[SECOND].number;
+    if (call == &calls[JOURNEY] ? p == MISPLACED && number == SCION_PASSED
+                                : p == MISPLACED ? number > 8 && number != 28 : number == 28)
+        fail(call->name, "28 is not for just those paths that it is for");
 }
 
 // ---- the calls, each made twice
 
 typedef ScionReply Step(const uint16_t *, size_t, const uint8_t *, size_t, uint8_t *, size_t, uint16_t, uint32_t,
                         const uint8_t *, bool);
+typedef ScionReply StepInEdition(bool, const uint16_t *, size_t, const uint8_t *, size_t, uint8_t *, size_t, uint16_t,
+                                 uint32_t, const uint8_t *, bool);
 
-static void fuzz_step(const Call *call, Step *step) {
-    bool is_egress = call == &calls[EGRESS], outside = !is_egress && !one_in(4);
+static Step *const steps[] = {scion_handle_standard_path, scion_standard_path_ingress, scion_standard_path_egress};
+static StepInEdition *const steps_in_edition[] = {scion_handle_standard_path_in_edition,
+                                                  scion_standard_path_ingress_in_edition,
+                                                  scion_standard_path_egress_in_edition};
+
+// The lengths are those of the input.
+static ScionReply make_step(int which, int mode, const uint16_t *given_ids, const uint8_t *given_states,
+                            uint8_t *given_path, uint16_t interface, uint32_t time, const uint8_t *given_key,
+                            bool ignore_macs) {
+    if (mode == PLAIN)
+        return steps[which](given_ids, ids_length, given_states, states_length, given_path, path_length, interface,
+                            time, given_key, ignore_macs);
+    return steps_in_edition[which](mode == SECOND, given_ids, ids_length, given_states, states_length, given_path,
+                                   path_length, interface, time, given_key, ignore_macs);
+}
+
+static void fuzz_step(int which) {
+    bool is_egress = which == EGRESS, outside = !is_egress && !one_in(4);
     bool shared = one_in(8);
     draw_bytes(key, sizeof key);
     draw_table();
@@ -376,34 +455,41 @@ static void fuzz_step(const Call *call, Step *step) {
     if (!is_egress && !outside) interface = 0;
     bool ignore_macs = one_in(8);
 
-    static uint8_t left[MAX_PATH];
-    ScionReply replies[2];
-    for (int high = 0; high < 2; high++) {
-        const uint16_t *given_ids = place(&ids_room, ids, ids_length * 2, high);
-        const uint8_t *given_states = place(&states_room, states, states_length, high);
-        uint8_t *given_path = place(&path_room, path, path_length, high);
-        const uint8_t *given_key = place(&key_room, key, sizeof key, high);
-        replies[high] = step(given_ids, ids_length, given_states, states_length, given_path, path_length, interface,
-                             time, given_key, ignore_macs);
-        check_kept(&ids_room, ids, call->name);
-        check_kept(&states_room, states, call->name);
+    static uint8_t left[MODES][MAX_PATH];
+    ScionReply replies[MODES];
+    for (int mode = 0; mode < MODES; mode++) {
+        const Call *call = in_mode(&calls[which], mode);
+        for (int high = 0; high < 2; high++) {
+            const uint16_t *given_ids = place(&ids_room, ids, ids_length * 2, high);
+            const uint8_t *given_states = place(&states_room, states, states_length, high);
+            uint8_t *given_path = place(&path_room, path, path_length, high);
+            const uint8_t *given_key = place(&key_room, key, sizeof key, high);
+            ScionReply reply = make_step(which, mode, given_ids, given_states, given_path, interface, time, given_key,
+                                         ignore_macs);
+            check_kept(&ids_room, ids, call->name);
+            check_kept(&states_room, states, call->name);
+            check_kept(&key_room, key, call->name);
+            check_around(&path_room, call->name);
+            if (high) check_same(call, replies[mode], reply);
+            if (high && memcmp(left[mode], path_room.at, path_length) != 0) fail(call->name, "bytes left that differ");
+            replies[mode] = reply;
+            memcpy(left[mode], path_room.at, path_length);
+        }
+        if (mode != FIRST) check_reply(call, replies[mode]);
+        if ((replies[mode].number <= 4 || replies[mode].number == 28) && memcmp(left[mode], path, path_length) != 0)
+            fail(call->name, "a change by 1 to 4 or 28");
+        if (!shared) continue;
+        const uint8_t *given = place(&key_room, key, sizeof key, true);
+        uint8_t *given_path = place(&path_room, path, path_length, true);
+        check_same(call, replies[mode],
+                   make_step(which, mode, (const uint16_t *)(const void *)given + ids_start, given + states_start,
+                             given_path, interface, time, given, ignore_macs));
         check_kept(&key_room, key, call->name);
         check_around(&path_room, call->name);
-        if (high && memcmp(left, path_room.at, path_length) != 0) fail(call->name, "bytes left that differ");
-        memcpy(left, path_room.at, path_length);
+        if (memcmp(left[mode], path_room.at, path_length) != 0) fail(call->name, "bytes left that differ");
     }
-    check_reply(call, replies[0]);
-    check_same(call, replies[0], replies[1]);
-    if (replies[0].number <= 4 && memcmp(left, path, path_length) != 0) fail(call->name, "a change by 1 to 4");
-    if (!shared) return;
-    const uint8_t *given = place(&key_room, key, sizeof key, true);
-    uint8_t *given_path = place(&path_room, path, path_length, true);
-    check_same(call, replies[0], step((const uint16_t *)(const void *)given + ids_start, ids_length,
-                                      given + states_start, states_length, given_path, path_length, interface, time,
-                                      given, ignore_macs));
-    check_kept(&key_room, key, call->name);
-    check_around(&path_room, call->name);
-    if (memcmp(left, path_room.at, path_length) != 0) fail(call->name, "bytes left that differ");
+    check_editions(&calls[which], replies, memcmp(left[PLAIN], left[FIRST], path_length) == 0,
+                   memcmp(left[FIRST], left[SECOND], path_length) == 0);
 }
 
 static void fuzz_reverse(const Call *call) {
@@ -483,8 +569,15 @@ static void fuzz_macs(void) {
 
 static uint64_t shared_verdicts[2]; // how many paths that lie in the itinerary did not pass, and did
 
-static void fuzz_journey(const Call *call) {
-    ScionReply replies[2];
+static ScionReply make_check(int mode, const uint8_t *given_path, const uint8_t *given, uint32_t earliest,
+                             uint32_t latest) {
+    if (mode == PLAIN)
+        return scion_check_journey(given_path, path_length, given, itinerary_length, earliest, latest);
+    return scion_check_journey_in_edition(mode == SECOND, given_path, path_length, given, itinerary_length, earliest,
+                                          latest);
+}
+
+static void fuzz_journey(void) {
     draw_journey();
     if (one_in(16) && hops != 0) hop_at(draw(hops))[0] = draw(4);
     damage_journey();
@@ -498,21 +591,26 @@ static void fuzz_journey(const Call *call) {
     }
     uint32_t earliest = one_in(16) ? draw(2000) : 1002 + draw(50);
     uint32_t latest = one_in(16) ? draw(2000) : earliest + draw(50);
-    for (int high = 0; high < 2; high++) {
-        const uint8_t *given_path = place(&path_room, path, path_length, high);
-        const uint8_t *given = place(&itinerary_room, itinerary, itinerary_length, high);
-        replies[high] = scion_check_journey(given_path, path_length, given, itinerary_length, earliest, latest);
-        check_kept(&path_room, path, call->name);
+    ScionReply replies[MODES];
+    for (int mode = 0; mode < MODES; mode++) {
+        const Call *call = in_mode(&calls[JOURNEY], mode);
+        for (int high = 0; high < 2; high++) {
+            const uint8_t *given_path = place(&path_room, path, path_length, high);
+            const uint8_t *given = place(&itinerary_room, itinerary, itinerary_length, high);
+            ScionReply reply = make_check(mode, given_path, given, earliest, latest);
+            check_kept(&path_room, path, call->name);
+            check_kept(&itinerary_room, itinerary, call->name);
+            if (high) check_same(call, replies[mode], reply);
+            replies[mode] = reply;
+        }
+        if (mode != FIRST) check_reply(call, replies[mode]);
+        if (!shared) continue;
+        const uint8_t *given = place(&itinerary_room, itinerary, itinerary_length, true);
+        check_same(call, replies[mode], make_check(mode, given + path_start, given, earliest, latest));
         check_kept(&itinerary_room, itinerary, call->name);
+        shared_verdicts[replies[mode].number == SCION_PASSED]++;
     }
-    check_reply(call, replies[0]);
-    check_same(call, replies[0], replies[1]);
-    if (!shared) return;
-    const uint8_t *given = place(&itinerary_room, itinerary, itinerary_length, true);
-    check_same(call, replies[0],
-               scion_check_journey(given + path_start, path_length, given, itinerary_length, earliest, latest));
-    check_kept(&itinerary_room, itinerary, call->name);
-    shared_verdicts[replies[0].number == SCION_PASSED]++;
+    check_editions(&calls[JOURNEY], replies, true, true);
 }
 
 // ---- null
@@ -523,28 +621,35 @@ static void check_number(const Call *call, ScionReply reply, uint16_t number) {
 
 // Null with length 0, for each argument and for all.
 static void call_with_null(void) {
-    static Step *const steps[] = {scion_handle_standard_path, scion_standard_path_ingress, scion_standard_path_egress};
     lengths[0] = 3;
     lengths[1] = lengths[2] = 0;
     draw_header();
     path[0] = 3;
-    ids_length = states_length = 2;
     ids[1] = ids[0] + 1;
     states[0] = states[1] = 6;
-    for (int i = STEP; i <= EGRESS; i++) {
-        check_number(&calls[i], steps[i](NULL, 0, states, 2, path, path_length, 0, 0, key, false), SCION_UNSOUND_TABLE);
-        check_number(&calls[i], steps[i](ids, 2, NULL, 0, path, path_length, 0, 0, key, false), SCION_UNSOUND_TABLE);
-        check_number(&calls[i], steps[i](NULL, 0, NULL, 0, path, path_length, 0, 0, key, false),
-                     SCION_HOP_OUT_OF_BOUNDS);
-        check_number(&calls[i], steps[i](ids, 2, states, 2, NULL, 0, 0, 0, key, false), SCION_META_TOO_SHORT);
-        check_number(&calls[i], steps[i](NULL, 0, NULL, 0, NULL, 0, 0, 0, key, false), SCION_META_TOO_SHORT);
+    size_t length = path_length;
+    for (int i = 0; i < 3 * MODES * 7; i++) {
+        int which = i % 3, mode = i / 3 % MODES, none = 1 + i / 3 / MODES;
+        ids_length = none & 1 ? 0 : 2;
+        states_length = none & 2 ? 0 : 2;
+        path_length = none & 4 ? 0 : length;
+        ScionReply reply = make_step(which, mode, none & 1 ? NULL : ids, none & 2 ? NULL : states,
+                                     none & 4 ? NULL : path, 0, 0, key, false);
+        check_number(in_mode(&calls[which], mode), reply,
+                     ids_length != states_length ? SCION_UNSOUND_TABLE
+                     : path_length == 0          ? SCION_META_TOO_SHORT
+                                                 : SCION_HOP_OUT_OF_BOUNDS);
+    }
+    for (int i = 0; i < MODES * 3; i++) {
+        int mode = i % MODES, none = 1 + i / MODES;
+        path_length = none & 1 ? 0 : length;
+        itinerary_length = none & 2 ? 0 : RECORD;
+        ScionReply reply = make_check(mode, none & 1 ? NULL : path, none & 2 ? NULL : itinerary, 0, 0);
+        check_number(in_mode(&calls[JOURNEY], mode), reply, none & 1 ? SCION_META_TOO_SHORT : SCION_UNFIT_ITINERARY);
     }
     check_number(&calls[REVERSE], scion_try_reverse(NULL, 0), SCION_META_TOO_SHORT);
     check_number(&calls[EXPIRATION], scion_expiration(NULL, 0), SCION_META_TOO_SHORT);
     check_number(&calls[SEGMENT], scion_calculate_segment_index(NULL, 0, 0), SCION_HOP_OUT_OF_BOUNDS);
-    check_number(&calls[JOURNEY], scion_check_journey(NULL, 0, path, RECORD, 0, 0), SCION_META_TOO_SHORT);
-    check_number(&calls[JOURNEY], scion_check_journey(path, path_length, NULL, 0, 0, 0), SCION_UNFIT_ITINERARY);
-    check_number(&calls[JOURNEY], scion_check_journey(NULL, 0, NULL, 0, 0, 0), SCION_META_TOO_SHORT);
     uint8_t macs[2][16];
     scion_aes_cmac(key, NULL, 0, macs[0]);
     scion_aes_cmac(key, path, 0, macs[1]);
@@ -574,16 +679,17 @@ int main(int count, char **words) {
     mac_room = make_room(16);
     call_with_null();
     for (uint32_t i = 0; i < rounds; i++) {
-        fuzz_step(&calls[STEP], scion_handle_standard_path);
-        fuzz_step(&calls[INGRESS], scion_standard_path_ingress);
-        fuzz_step(&calls[EGRESS], scion_standard_path_egress);
+        for (int which = STEP; which <= EGRESS; which++) fuzz_step(which);
         fuzz_reverse(&calls[REVERSE]);
         fuzz_readers();
         fuzz_macs();
-        fuzz_journey(&calls[JOURNEY]);
+        fuzz_journey();
     }
     for (int i = 0; i < CALLS; i++) report(&calls[i]);
     if (shared_verdicts[0] == 0 || shared_verdicts[1] == 0) fail("scion_check_journey", "a path in an itinerary");
-    printf("%u rounds of nine calls, each made twice\n", (unsigned)rounds);
+    if (without_p == 0 || changed_by_p == 0) fail("editions", "no path without P, or none with it");
+    printf("editions: %llu inputs without P, %llu with P that they answer otherwise\n", (unsigned long long)without_p,
+           (unsigned long long)changed_by_p);
+    printf("%u rounds of thirteen calls, each made twice\n", (unsigned)rounds);
     return 0;
 }

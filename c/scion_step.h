@@ -2,7 +2,7 @@
  * SCION's standard-path step for C (C99 on) and C++ (C++11 on) programs on x86-64 Linux.
  *
  * A call takes any bytes, any numbers and any lengths, and returns. What it promises is its contract in
- * crates/exports/src/calls.rt. Only the pointers are trusted:
+ * crates/exports/src. Only the pointers are trusted:
  *
  * - A pointer is valid for the length that is passed with it, or for the array that is declared. Where the length is 0
  *   it may be null. A key or a MAC is never null.
@@ -51,13 +51,14 @@ extern "C" {
 #endif
 
 /*
- * The version. Each change to a call or to what it answers raises it. The call's name has the version, so a program
- * that makes the call does not link with an archive of another version. It returns SCION_STEP_VERSION.
+ * The version. Each change to a call or to what it answers raises it; a call that is added does not. The call's name
+ * has the version, so a program that makes the call does not link with an archive of another version. It returns
+ * SCION_STEP_VERSION.
  */
 #define SCION_STEP_VERSION 1
 uint32_t scion_step_version_1(void);
 
-/* The most bytes of stack that a call takes. The whole step takes most: 2,572 when it was measured. */
+/* The most bytes of stack that a call takes. The whole step takes most: 2,764 when it was measured. */
 #define SCION_STEP_STACK 4096
 
 /* ---- what a call takes */
@@ -139,6 +140,7 @@ enum {
     SCION_UNFIT_ITINERARY = 23,              /* unsound, not for this path, or `earliest` is later than `latest` */
     SCION_NOT_AT_START = 24,                 /* the path's current hop or info field is not its first */
     SCION_ALERT_SET = 25,                    /* on a hop field of the path */
+    SCION_MISPLACED_PEERING = 28,            /* P on a path that is no peering path; in the second edition only */
 
     SCION_CONTINUE_EGRESS = 100,             /* value: the interface to leave by */
     SCION_FORWARD_NEXT_HOP = 101,            /* value: the interface to leave by */
@@ -228,6 +230,59 @@ ScionReply scion_calculate_segment_index(const uint8_t *path, size_t path_length
 ScionReply scion_check_journey(const uint8_t *path, size_t path_length,
                                const uint8_t *itinerary, size_t itinerary_length,
                                uint32_t earliest, uint32_t latest);
+
+/* ---- the same in an edition */
+
+/*
+ * The step, its halves and the journey check by the edition of their rules: `is_second` false is the first, true the
+ * second. The editions differ in P alone, the flag 2 in the first byte of an info field.
+ *
+ * In the first edition P has no meaning. The calls above are of this edition: each is its call here with false.
+ *
+ * The second edition has the peering rule of SCION's data plane draft. On a peering path just the first two lengths are
+ * nonzero and both info fields have P. The last hop of its first segment and the first hop of its second are peering
+ * hops, each in an AS of its own. A packet goes from one to the other over a peering link: there is no segment change.
+ * The MACs of both are checked, but the MAC chain leaves them out. A segment may have one hop. On any other path with P
+ * the step and its halves answer 28, unless one of 1 to 8 comes first.
+ *
+ * Where no info field of a path has P, both editions give the same answers and leave the same bytes.
+ */
+
+/* The whole step: 1 to 18, 28 if `is_second`, or 101 to 104. */
+ScionReply scion_handle_standard_path_in_edition(bool is_second,
+                                                 const uint16_t *ids, size_t ids_length,
+                                                 const uint8_t *states, size_t states_length,
+                                                 uint8_t *path, size_t path_length,
+                                                 uint16_t ingress_interface_id, uint32_t time,
+                                                 const uint8_t as_forwarding_key[SCION_KEY_BYTES], bool ignore_macs)
+    SCION_STEP_NONNULL(10);
+
+/* The ingress half alone: 1 to 16, 28 if `is_second`, 100, 102 or 103. */
+ScionReply scion_standard_path_ingress_in_edition(bool is_second,
+                                                  const uint16_t *ids, size_t ids_length,
+                                                  const uint8_t *states, size_t states_length,
+                                                  uint8_t *path, size_t path_length,
+                                                  uint16_t ingress_interface_id, uint32_t time,
+                                                  const uint8_t forwarding_key[SCION_KEY_BYTES], bool ignore_macs)
+    SCION_STEP_NONNULL(10);
+
+/* The egress half alone: 1 to 5, 7, 8, 10 to 12, 18, 19, 28 if `is_second`, 101 or 104. */
+ScionReply scion_standard_path_egress_in_edition(bool is_second,
+                                                 const uint16_t *ids, size_t ids_length,
+                                                 const uint8_t *states, size_t states_length,
+                                                 uint8_t *path, size_t path_length,
+                                                 uint16_t egress_if_id, uint32_t time,
+                                                 const uint8_t forwarding_key[SCION_KEY_BYTES], bool ignore_macs)
+    SCION_STEP_NONNULL(10);
+
+/*
+ * The journey check: 2 to 4, 23 to 25, 120 or 121. In the second edition a peering path has as many stations as hops,
+ * and any other path with P is not passed.
+ */
+ScionReply scion_check_journey_in_edition(bool is_second,
+                                          const uint8_t *path, size_t path_length,
+                                          const uint8_t *itinerary, size_t itinerary_length,
+                                          uint32_t earliest, uint32_t latest);
 
 /* ---- MACs */
 

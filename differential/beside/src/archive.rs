@@ -33,6 +33,32 @@ pub fn run(case: &Case, path: &mut [u8]) -> Answer {
     })
 }
 
+/// The same in an edition, if the call has editions.
+pub fn run_in_edition(is_second: bool, case: &Case, path: &mut [u8]) -> Answer {
+    let step: ScionStepInEdition = match case.call {
+        Call::Step => scion_handle_standard_path_in_edition,
+        Call::Ingress => scion_standard_path_ingress_in_edition,
+        Call::Egress => scion_standard_path_egress_in_edition,
+        Call::Reverse | Call::Expiration => return run(case, path),
+    };
+    // SAFETY: pointers and lengths of slices that are borrowed for the call
+    answer(unsafe {
+        step(
+            is_second,
+            case.ids.as_ptr(),
+            case.ids.len(),
+            case.states.as_ptr(),
+            case.states.len(),
+            path.as_mut_ptr(),
+            path.len(),
+            case.interface,
+            case.now,
+            &case.key,
+            case.ignore_macs,
+        )
+    })
+}
+
 pub fn segment_index(path: &[u8], hop: u8) -> Option<(usize, bool, bool)> {
     // SAFETY: pointer and length of a slice that is borrowed for the call
     let reply = unsafe { scion_calculate_segment_index(path.as_ptr(), path.len(), hop) };
@@ -51,6 +77,29 @@ pub fn check_journey(path: &[u8], itinerary: &[u8], earliest: u32, latest: u32) 
     // SAFETY: pointers and lengths of slices that are borrowed for the call
     unsafe {
         scion_check_journey(
+            path.as_ptr(),
+            path.len(),
+            itinerary.as_ptr(),
+            itinerary.len(),
+            earliest,
+            latest,
+        )
+    }
+    .number
+}
+
+/// The same in an edition.
+pub fn check_journey_in_edition(
+    is_second: bool,
+    path: &[u8],
+    itinerary: &[u8],
+    earliest: u32,
+    latest: u32,
+) -> u16 {
+    // SAFETY: pointers and lengths of slices that are borrowed for the call
+    unsafe {
+        scion_check_journey_in_edition(
+            is_second,
             path.as_ptr(),
             path.len(),
             itinerary.as_ptr(),

@@ -1,11 +1,13 @@
 //! The differential run: each case on the published Rust and on the Rattle archive, the answers and the bytes left compared.
+//! The Rust's is the first edition: one half of the cases takes the archive's calls without an edition, the other half those in the
+//! first. The second is held against the first, where no P is set.
 //!
 //! `beside [cases of each family] [seed] [part of lengths] [journeys]`. The third number n takes every n-th triple of lengths; 1 takes all.
 
 use std::{process::ExitCode, time::Instant};
 
-use beside::{archive, plans};
-use oracle::{Answer, Case, case, counts::Counts, inputs};
+use beside::{archive, has_p, plans};
+use oracle::{Answer, Call, Case, case, counts::Counts, inputs};
 
 fn main() -> ExitCode {
     let mut arguments = std::env::args().skip(1);
@@ -29,10 +31,17 @@ fn main() -> ExitCode {
     inputs::lengths::needed_sizes(seed as usize % of, of, &mut |case| run.compare(case));
     inputs::lengths::places(seed, seed as usize % of, of, &mut |case| run.compare(case));
     let indices = segment_indices(seed as usize % of, of, &mut run);
-    let verdicts = plans::compare(seed, journeys, &mut run.different);
+    let plans::Report {
+        verdicts,
+        in_second,
+    } = plans::compare(seed, journeys, &mut run.different);
 
     println!("{}", run.counts);
     println!("{} segment indices; journeys: {verdicts}", indices);
+    println!(
+        "without P, in the second edition as in the first: {} calls, {in_second} journeys",
+        run.in_second
+    );
     println!(
         "{} calls compared, {} by the scope alone (1 or 4), {} different, {:.0} s",
         run.counts.total(),
@@ -50,13 +59,23 @@ struct Run {
     different: u64,
     rust: Vec<u8>,
     rattle: Vec<u8>,
+    cases: u64,
+    in_second: u64,
+    second: Vec<u8>,
 }
 
 impl Run {
     fn compare(&mut self, case: &Case) {
         copy(&case.path, &mut self.rust);
         copy(&case.path, &mut self.rattle);
-        let rattle = archive::run(case, &mut self.rattle);
+        self.cases += 1;
+        // Not by turns: the cases of a call may come in some order.
+        let rattle = if self.cases.wrapping_mul(0x9e37_79b9_7f4a_7c15) >> 63 == 0 {
+            archive::run(case, &mut self.rattle)
+        } else {
+            archive::run_in_edition(false, case, &mut self.rattle)
+        };
+        self.compare_second(case, &rattle);
         // Where the scope asks more than the Rust, its own answer: nothing changes.
         let rust = match case.beyond_the_rust() {
             Some(number) => {
@@ -79,6 +98,25 @@ impl Run {
                 println!(
                     "DIFFERENT: {case:?}\n  Rust   {rust:?} {:?}\n  Rattle {rattle:?} {:?}",
                     self.rust, self.rattle
+                );
+            }
+        }
+    }
+
+    /// Without P the second edition gives the answer of the first and leaves the bytes that it left in `rattle`.
+    fn compare_second(&mut self, case: &Case, first: &Answer) {
+        if matches!(case.call, Call::Reverse | Call::Expiration) || has_p(&case.path) {
+            return;
+        }
+        copy(&case.path, &mut self.second);
+        let second = archive::run_in_edition(true, case, &mut self.second);
+        self.in_second += 1;
+        if second != *first || self.second != self.rattle {
+            self.different += 1;
+            if self.different <= 10 {
+                println!(
+                    "DIFFERENT EDITIONS: {case:?}\n  first  {first:?} {:?}\n  second {second:?} {:?}",
+                    self.rattle, self.second
                 );
             }
         }

@@ -7,7 +7,7 @@ use oracle::{inputs::rng::Rng, number};
 use scion_step_sys::{SCION_NOT_PASSED as NOT_PASSED, SCION_PASSED as PASSED};
 use sciparse::dataplane_path::standard::mac::algo::{calculate_hop_mac, mac_beta_step};
 
-use crate::archive;
+use crate::{archive, has_p};
 
 const RECORD: usize = 32;
 
@@ -26,20 +26,42 @@ pub struct Call {
     pub latest: u32,
 }
 
-/// Counts of each verdict, for the report.
-pub fn compare(seed: u64, journeys: u64, different: &mut u64) -> String {
+pub struct Report {
+    /// Counts of each verdict.
+    pub verdicts: String,
+    /// How many have no P, so that the second edition has to give the same verdict.
+    pub in_second: u64,
+}
+
+/// The check without an edition and in the first by turns.
+pub fn compare(seed: u64, journeys: u64, different: &mut u64) -> Report {
     let mut rng = Rng::new(seed);
     let mut counts = std::collections::BTreeMap::new();
-    for _ in 0..journeys {
+    let mut in_second = 0;
+    for turn in 0..journeys {
         let lengths = random_lengths(&mut rng);
         let mut call = good_call(&mut rng, lengths, random_station);
         if !rng.once_in(3) {
             damage(&mut rng, &mut call);
         }
-        let verdict =
-            archive::check_journey(&call.path, &call.itinerary, call.earliest, call.latest);
+        let Call {
+            path,
+            itinerary,
+            earliest,
+            latest,
+        } = &call;
+        let in_edition = |is_second| {
+            archive::check_journey_in_edition(is_second, path, itinerary, *earliest, *latest)
+        };
+        let verdict = if turn % 2 == 0 {
+            archive::check_journey(path, itinerary, *earliest, *latest)
+        } else {
+            in_edition(false)
+        };
         *counts.entry(verdict).or_insert(0u64) += 1;
-        if !agrees(&mut rng, &call, verdict) {
+        let asks_second = !has_p(path);
+        in_second += u64::from(asks_second);
+        if !agrees(&mut rng, &call, verdict) || asks_second && in_edition(true) != verdict {
             *different += 1;
             println!(
                 "DIFFERENT JOURNEY: {verdict} {:?} {:?} {} {}",
@@ -51,7 +73,10 @@ pub fn compare(seed: u64, journeys: u64, different: &mut u64) -> String {
         .iter()
         .map(|(verdict, count)| format!("{verdict}: {count}"))
         .collect();
-    counts.join(", ")
+    Report {
+        verdicts: counts.join(", "),
+        in_second,
+    }
 }
 
 fn agrees(rng: &mut Rng, call: &Call, verdict: u16) -> bool {

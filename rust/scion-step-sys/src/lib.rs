@@ -17,7 +17,7 @@ pub const SCION_STEP_VERSION: u32 = 1;
 #[repr(C)]
 #[derive(Debug, Clone, Copy, PartialEq, Eq)]
 pub struct ScionReply {
-    /// For a refusal the scope document's number, 1 to 25; else 100 or above. Each has a name that starts with `SCION_`.
+    /// For a refusal the scope document's number, below 100; else 100 or above. Each has a name that starts with `SCION_`.
     pub number: u16,
     /// How many values there are.
     pub count: u16,
@@ -46,6 +46,21 @@ const _: () = {
 
 /// What the whole step and its two halves share: [`scion_handle_standard_path`] says what the arguments are.
 pub type ScionStep = unsafe extern "C" fn(
+    ids: *const u16,
+    ids_length: usize,
+    states: *const u8,
+    states_length: usize,
+    path: *mut u8,
+    path_length: usize,
+    interface_id: u16,
+    time: u32,
+    forwarding_key: *const [u8; 16],
+    ignore_macs: bool,
+) -> ScionReply;
+
+/// The same in an edition: [`scion_handle_standard_path_in_edition`] says which.
+pub type ScionStepInEdition = unsafe extern "C" fn(
+    is_second: bool,
     ids: *const u16,
     ids_length: usize,
     states: *const u8,
@@ -156,6 +171,63 @@ calls! {
     /// Whether the path travels over the itinerary's stations whatever their clocks read from `earliest` to `latest`:
     /// [`SCION_PASSED`], [`SCION_NOT_PASSED`], or a refusal by 2, 3, 4, 23, 24 or 25.
     fn scion_check_journey(
+        path: *const u8,
+        path_length: usize,
+        itinerary: *const u8,
+        itinerary_length: usize,
+        earliest: u32,
+        latest: u32,
+    ) -> ScionReply;
+
+    /// The whole step in an edition: false is the first, in which P has no meaning, true the second, which has the draft's
+    /// rule for peering paths. In the first it is [`scion_handle_standard_path`].
+    fn scion_handle_standard_path_in_edition(
+        is_second: bool,
+        ids: *const u16,
+        ids_length: usize,
+        states: *const u8,
+        states_length: usize,
+        path: *mut u8,
+        path_length: usize,
+        ingress_interface_id: u16,
+        time: u32,
+        as_forwarding_key: *const [u8; 16],
+        ignore_macs: bool,
+    ) -> ScionReply;
+
+    /// The ingress half alone, in an edition.
+    fn scion_standard_path_ingress_in_edition(
+        is_second: bool,
+        ids: *const u16,
+        ids_length: usize,
+        states: *const u8,
+        states_length: usize,
+        path: *mut u8,
+        path_length: usize,
+        ingress_interface_id: u16,
+        time: u32,
+        forwarding_key: *const [u8; 16],
+        ignore_macs: bool,
+    ) -> ScionReply;
+
+    /// The egress half alone, in an edition.
+    fn scion_standard_path_egress_in_edition(
+        is_second: bool,
+        ids: *const u16,
+        ids_length: usize,
+        states: *const u8,
+        states_length: usize,
+        path: *mut u8,
+        path_length: usize,
+        egress_if_id: u16,
+        time: u32,
+        forwarding_key: *const [u8; 16],
+        ignore_macs: bool,
+    ) -> ScionReply;
+
+    /// The journey check in an edition. In the second a peering path has a station for each of its hops.
+    fn scion_check_journey_in_edition(
+        is_second: bool,
         path: *const u8,
         path_length: usize,
         itinerary: *const u8,

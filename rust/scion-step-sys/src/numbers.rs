@@ -50,6 +50,8 @@ pub const SCION_UNFIT_ITINERARY: u16 = 23;
 pub const SCION_NOT_AT_START: u16 = 24;
 /// A hop field of the path has an SCMP alert.
 pub const SCION_ALERT_SET: u16 = 25;
+/// P is set in an info field of a path that is no peering path. Of the second edition only.
+pub const SCION_MISPLACED_PEERING: u16 = 28;
 
 /// The egress half is next. Value: the interface to leave by.
 pub const SCION_CONTINUE_EGRESS: u16 = 100;

@@ -156,10 +156,13 @@ pub enum AdvanceError {
     SingleHopSegment,
     /// The segment ends here, so that the packet can't leave (pocketscion's `InvalidPathState`).
     SegmentEnd,
+    /// P is set in an info field of a path that is no peering path. Only [`Edition::Second`](crate::Edition::Second)
+    /// answers so.
+    MisplacedPeering,
 }
 
 impl AdvanceError {
-    /// The scope document's number: 5 to 8 and 18.
+    /// The scope document's number: 5 to 8, 18 and 28.
     pub fn number(&self) -> u16 {
         match self {
             AdvanceError::HopOutOfBounds(_) => 5,
@@ -167,6 +170,7 @@ impl AdvanceError {
             AdvanceError::InvalidSegmentIndex { .. } => 7,
             AdvanceError::InfoOutOfBounds(_) => 8,
             AdvanceError::SegmentEnd => 18,
+            AdvanceError::MisplacedPeering => 28,
         }
     }
 }
@@ -187,6 +191,7 @@ impl fmt::Display for AdvanceError {
                 f,
                 "the current hop is its segment's last, so the packet can't leave by it"
             ),
+            AdvanceError::MisplacedPeering => write!(f, "P is set on a path that is no peering path"),
         }
     }
 }

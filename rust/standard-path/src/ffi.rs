@@ -4,25 +4,27 @@
 //! references, so that they are valid, aligned, and `path` overlaps nothing. An empty slice comes as a dangling pointer
 //! with length 0: the archive reads no byte at or behind a length. It keeps no state, so calls may run on several threads.
 
-use crate::{ForwardingKey, Interfaces};
-use scion_step_sys::{self as sys, ScionReply as Reply, ScionStep};
+use crate::{Edition, ForwardingKey, Interfaces};
+use scion_step_sys::{self as sys, ScionReply as Reply, ScionStepInEdition};
 
-/// Where a packet is, when, and with which key: the arguments of a step beside its path and its table.
+/// In which edition, where a packet is, when, and with which key: the arguments of a step beside its path and its table.
 #[derive(Clone, Copy)]
 pub(crate) struct At<'a> {
+    pub(crate) edition: Edition,
     pub(crate) interface_id: u16,
     pub(crate) time: u32,
     pub(crate) key: &'a ForwardingKey,
     pub(crate) ignore_macs: bool,
 }
 
-fn step(call: ScionStep, interfaces: Interfaces<'_>, path: &mut [u8], at: At<'_>) -> Reply {
+fn step(call: ScionStepInEdition, interfaces: Interfaces<'_>, path: &mut [u8], at: At<'_>) -> Reply {
     let Interfaces { ids, states } = interfaces;
     // SAFETY: `call` is one of the three functions with this signature. Each pointer comes from a reference that
     // lives through the call, with that reference's length; `path` is borrowed mutably, so nothing overlaps it; the key
     // is read as the 16 bytes it has.
     unsafe {
         call(
+            at.edition == Edition::Second,
             ids.as_ptr(),
             ids.len(),
             states.as_ptr(),
@@ -38,15 +40,15 @@ fn step(call: ScionStep, interfaces: Interfaces<'_>, path: &mut [u8], at: At<'_>
 }
 
 pub(crate) fn whole_step(interfaces: Interfaces<'_>, path: &mut [u8], at: At<'_>) -> Reply {
-    step(sys::scion_handle_standard_path, interfaces, path, at)
+    step(sys::scion_handle_standard_path_in_edition, interfaces, path, at)
 }
 
 pub(crate) fn ingress(interfaces: Interfaces<'_>, path: &mut [u8], at: At<'_>) -> Reply {
-    step(sys::scion_standard_path_ingress, interfaces, path, at)
+    step(sys::scion_standard_path_ingress_in_edition, interfaces, path, at)
 }
 
 pub(crate) fn egress(interfaces: Interfaces<'_>, path: &mut [u8], at: At<'_>) -> Reply {
-    step(sys::scion_standard_path_egress, interfaces, path, at)
+    step(sys::scion_standard_path_egress_in_edition, interfaces, path, at)
 }
 
 pub(crate) fn try_reverse(path: &mut [u8]) -> Reply {
@@ -64,10 +66,11 @@ pub(crate) fn calculate_segment_index(path: &[u8], hop_idx: u8) -> Reply {
     unsafe { sys::scion_calculate_segment_index(path.as_ptr(), path.len(), hop_idx) }
 }
 
-pub(crate) fn check_journey(path: &[u8], itinerary: &[u8], earliest: u32, latest: u32) -> Reply {
+pub(crate) fn check_journey(edition: Edition, path: &[u8], itinerary: &[u8], earliest: u32, latest: u32) -> Reply {
     // SAFETY: pointers and lengths of two slices, which are only read.
     unsafe {
-        sys::scion_check_journey(
+        sys::scion_check_journey_in_edition(
+            edition == Edition::Second,
             path.as_ptr(),
             path.len(),
             itinerary.as_ptr(),

@@ -9,6 +9,7 @@
 #![deny(unsafe_code, unsafe_op_in_unsafe_fn, missing_docs)]
 
 mod answer;
+mod edition;
 #[allow(unsafe_code)]
 mod ffi;
 mod reply;
@@ -18,11 +19,12 @@ pub use answer::{
     AdvanceError, AsRoutingAction, HeaderError, IngressNextAction, JourneyError, LocalAsRoutingAction,
     PathReverseError, Refusal, ScmpError, SegmentIndex, StandardRoutingError, Verdict,
 };
+pub use edition::Edition;
 pub use table::{AsRoutingInterfaceState, AsRoutingLinkType, InterfaceTable, Interfaces, UnsoundTable};
 
 /// The numbers of all refusals, as `number` of an error gives them. More will be added.
 pub const REFUSALS: &[u16] = &[
-    1, 2, 3, 4, 5, 6, 7, 8, 9, 10, 11, 12, 13, 14, 15, 16, 17, 18, 19, 20, 21, 22, 23, 24, 25,
+    1, 2, 3, 4, 5, 6, 7, 8, 9, 10, 11, 12, 13, 14, 15, 16, 17, 18, 19, 20, 21, 22, 23, 24, 25, 28,
 ];
 
 /// An AS's key for the MACs of its hop fields.
@@ -44,7 +46,7 @@ impl ScionNetworkTime {
     }
 }
 
-// ---- the step
+// ---- the step, in the first edition
 
 /// The whole step of an AS on `path`, in place: where does a packet go that came in by `ingress_interface_id` (0 from
 /// hosts of this AS)?
@@ -59,13 +61,8 @@ pub fn handle_standard_path<'a>(
     interfaces: impl Into<Interfaces<'a>>,
     ignore_macs: bool,
 ) -> Result<AsRoutingAction, Refusal> {
-    let at = ffi::At {
-        interface_id: ingress_interface_id,
-        time: now.0,
-        key: as_forwarding_key,
-        ignore_macs,
-    };
-    reply::step(ffi::whole_step(interfaces.into(), path, at))
+    let key = as_forwarding_key;
+    Edition::First.handle_standard_path(path, ingress_interface_id, now, key, interfaces, ignore_macs)
 }
 
 /// The ingress half of the step alone.
@@ -77,13 +74,8 @@ pub fn standard_path_ingress<'a>(
     interfaces: impl Into<Interfaces<'a>>,
     ignore_macs: bool,
 ) -> Result<IngressNextAction, Refusal> {
-    let at = ffi::At {
-        interface_id: ingress_interface_id,
-        time: now.0,
-        key: forwarding_key,
-        ignore_macs,
-    };
-    reply::ingress(ffi::ingress(interfaces.into(), path, at))
+    let key = forwarding_key;
+    Edition::First.standard_path_ingress(path, ingress_interface_id, now, key, interfaces, ignore_macs)
 }
 
 /// The egress half of the step alone, leaving by `egress_if_id`.
@@ -97,13 +89,7 @@ pub fn standard_path_egress<'a>(
     interfaces: impl Into<Interfaces<'a>>,
     ignore_macs: bool,
 ) -> Result<AsRoutingAction, Refusal> {
-    let at = ffi::At {
-        interface_id: egress_if_id,
-        time: now.0,
-        key: forwarding_key,
-        ignore_macs,
-    };
-    reply::step(ffi::egress(interfaces.into(), path, at))
+    Edition::First.standard_path_egress(path, egress_if_id, now, forwarding_key, interfaces, ignore_macs)
 }
 
 // ---- the path by itself
@@ -126,7 +112,7 @@ pub fn calculate_segment_index(path: &[u8], hop_idx: u8) -> SegmentIndex {
     reply::segment_index(ffi::calculate_segment_index(path, hop_idx))
 }
 
-// ---- the journey check
+// ---- the journey check, in the first edition
 
 /// Whether a path, as its source would send it, travels over the stations of an itinerary, whatever their clocks read
 /// from `earliest` to `latest`.
@@ -146,7 +132,7 @@ pub fn check_journey(
     earliest: ScionNetworkTime,
     latest: ScionNetworkTime,
 ) -> Result<Verdict, JourneyError> {
-    reply::journey(ffi::check_journey(path, itinerary, earliest.0, latest.0))
+    Edition::First.check_journey(path, itinerary, earliest, latest)
 }
 
 // ---- MACs

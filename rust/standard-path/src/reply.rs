@@ -110,6 +110,7 @@ fn error(reply: Reply) -> StandardRoutingError {
             if_id: reply.value(1),
         },
         SCION_SEGMENT_END => AdvanceError::SegmentEnd.into(),
+        SCION_MISPLACED_PEERING => AdvanceError::MisplacedPeering.into(),
         SCION_INVALID_EGRESS_INTERFACE => StandardRoutingError::InvalidEgressInterface {
             hop_index: hop_index(),
             expected: reply.value(1),

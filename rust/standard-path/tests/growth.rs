@@ -6,7 +6,12 @@ use standard_path::{AdvanceError, JourneyError, StandardRoutingError};
 fn advance(error: AdvanceError) -> &'static str {
     use AdvanceError::*;
     match error {
-        HopOutOfBounds(_) | InfoOutOfBounds(_) | InvalidSegmentIndex { .. } | SingleHopSegment | SegmentEnd => "known",
+        HopOutOfBounds(_)
+        | InfoOutOfBounds(_)
+        | InvalidSegmentIndex { .. }
+        | SingleHopSegment
+        | SegmentEnd
+        | MisplacedPeering => "known",
         _ => "later",
     }
 }

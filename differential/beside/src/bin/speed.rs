@@ -3,11 +3,13 @@
 //! The Rust has no journey check: beside it a journey is driven on the Rust twice, as the check's verdict asks, with every clock
 //! at the earliest reading and with every clock at the latest.
 //!
+//! The Rust has the first edition only: the second's step, on the inputs of the first's that have no P, stands beside it.
+//!
 //! The Rust's AES is the stand-in's, once with the processor's AES instructions and once without; the archive's is portable.
 
 use std::{hint::black_box, time::Instant};
 
-use beside::{archive, plans};
+use beside::{archive, has_p, plans};
 use cmac::{Cmac, Mac};
 use oracle::{
     Answer, Call, Case,
@@ -75,18 +77,25 @@ fn main() {
                 time(
                     &format!("{}{macs}", call.name()),
                     &kept(call, answer, ignore_macs),
+                    archive::run,
                 );
             }
         }
+        let mut cases = kept(Call::Step, number::FORWARD_NEXT_HOP, false);
+        cases.retain(|case| !has_p(&case.path));
+        time("step, second edition", &cases, |case, path| {
+            archive::run_in_edition(true, case, path)
+        });
         for lengths in JOURNEYS {
             journey(lengths);
         }
     }
-    time("reverse", &kept(Call::Reverse, number::REVERSED, false));
-    time(
-        "expiration",
-        &kept(Call::Expiration, number::EXPIRATION, false),
-    );
+    for (call, answer) in [
+        (Call::Reverse, number::REVERSED),
+        (Call::Expiration, number::EXPIRATION),
+    ] {
+        time(call.name(), &kept(call, answer, false), archive::run);
+    }
 }
 
 /// Cases that a call answers so.
@@ -104,8 +113,10 @@ fn kept(call: Call, answer: u16, ignore_macs: bool) -> Vec<Case> {
     cases
 }
 
-fn time(name: &str, cases: &[Case]) {
-    let run = |side: fn(&Case, &mut [u8]) -> Answer| {
+type Side = fn(&Case, &mut [u8]) -> Answer;
+
+fn time(name: &str, cases: &[Case], rattle: Side) {
+    let run = |side: Side| {
         let mut path = Vec::new();
         move |turn: usize| {
             let case = &cases[turn % cases.len()];
@@ -114,7 +125,7 @@ fn time(name: &str, cases: &[Case]) {
             black_box(side(case, &mut path));
         }
     };
-    report(name, CALLS, &mut run(archive::run), &mut run(Case::run));
+    report(name, CALLS, &mut run(rattle), &mut run(Case::run));
 }
 
 fn journey(lengths: [usize; 3]) {
