@@ -1,13 +1,13 @@
 //! The library's answers as words, numbers and named values. Each is told as it came; none is made here.
 
+use crate::edition;
 use crate::header::{Header, Hop, Info};
 use crate::hop_words;
 use crate::json::Json;
 use crate::sentences::{self, Call, Question};
 use standard_path::{
-    expiration, standard_path_ingress, AdvanceError, AsRoutingAction, HeaderError, IngressNextAction, Interfaces,
-    JourneyError, LocalAsRoutingAction, PathReverseError, Refusal, ScionNetworkTime, ScmpError, StandardRoutingError,
-    Verdict,
+    expiration, AdvanceError, AsRoutingAction, Edition, HeaderError, IngressNextAction, Interfaces, JourneyError,
+    LocalAsRoutingAction, PathReverseError, Refusal, ScionNetworkTime, ScmpError, StandardRoutingError, Verdict,
 };
 
 /// An answer of the library.
@@ -21,6 +21,8 @@ pub struct Answer {
     pub scmp: Option<ScmpError>,
     /// The question that was answered no.
     pub question: Option<&'static Question>,
+    /// What more there is to do about it.
+    more_advice: Option<&'static str>,
     /// The hops that a refusal is about, each with its index and info field.
     pub hops: Vec<(usize, Info, Hop)>,
     /// Whether the answer is one to be glad of, which ends the program with status 0.
@@ -36,6 +38,7 @@ impl Answer {
             sentence: sentence.to_string(),
             scmp: None,
             question: sentences::of_number(number),
+            more_advice: None,
             hops: Vec::new(),
             is_good,
         }
@@ -55,8 +58,9 @@ impl Answer {
     }
 
     /// The answer of a call that was given one path and left another: its question, and the hops that it is about.
-    pub fn of_call(mut self, call: Call, before: &[u8], left: &[u8]) -> Answer {
-        self.question = sentences::of_call(call, self.number, &self.values, left);
+    pub fn of_call(mut self, call: Call, edition: Edition, before: &[u8], left: &[u8]) -> Answer {
+        self.question = sentences::of_call((call, edition), self.number, &self.values, left);
+        self.more_advice = edition::advice(edition, self.number, Header(before));
         let Some(("hop_index", Json::Number(index))) = self.values.first() else {
             return self;
         };
@@ -66,6 +70,20 @@ impl Answer {
         let hops = (first..).take(if is_change { 2 } else { 1 });
         self.hops = hops.filter_map(|index| header.hop_in_step(index)).collect();
         self
+    }
+
+    /// The answer of a journey check that was given this path.
+    pub fn of_check(mut self, edition: Edition, path: &[u8]) -> Answer {
+        self.question = sentences::of_check(edition, self.number, path);
+        self.more_advice = edition::advice(edition, self.number, Header(path));
+        self
+    }
+
+    /// What to do about a refusal.
+    fn advice(&self) -> Option<String> {
+        let advice = self.question.map(|question| question.advice);
+        let advice: Vec<_> = advice.into_iter().chain(self.more_advice).collect();
+        (!advice.is_empty()).then(|| advice.join(" "))
     }
 
     /// The answer in a sentence, with its number.
@@ -108,8 +126,8 @@ impl Answer {
                 format!("question {}", self.number),
                 format!("{} No. {}", question.asked, question.no),
             ));
-            lines.push(("what to do".into(), question.advice.into()));
         }
+        lines.extend(self.advice().map(|advice| ("what to do".into(), advice)));
         lines
     }
 
@@ -135,7 +153,7 @@ impl Answer {
             ("scmp", self.scmp.map_or(Json::Null, scmp_json)),
             ("question", text(question.map(|question| question.asked))),
             ("means", text(question.map(|question| question.no))),
-            ("what_to_do", text(question.map(|question| question.advice))),
+            ("what_to_do", self.advice().map_or(Json::Null, Json::Text)),
         ]
     }
 }
@@ -208,7 +226,9 @@ fn refusal_values(error: StandardRoutingError) -> Vec<(&'static str, Json)> {
     let mac = |name, mac: [u8; 6]| (name, Json::text(crate::hex::to_hex(&mac)));
     match error {
         Error::UnsoundTable | Error::MetaTooShort | Error::DataTooShort | Error::TooManyHops => vec![],
-        Error::AdvanceFailed(AdvanceError::SingleHopSegment | AdvanceError::SegmentEnd) => vec![],
+        Error::AdvanceFailed(
+            AdvanceError::SingleHopSegment | AdvanceError::SegmentEnd | AdvanceError::MisplacedPeering,
+        ) => vec![],
         Error::AdvanceFailed(AdvanceError::HopOutOfBounds(index) | AdvanceError::InfoOutOfBounds(index)) => {
             vec![("index", Json::number(index))]
         }
@@ -290,9 +310,9 @@ pub fn of_header_error(error: HeaderError) -> Answer {
     Answer::refused(error.number(), error)
 }
 
-/// Why a header is turned down by itself: by 2 to 4, or by 5 to 8 at ingress. An empty table is sound, and clock, table and
-/// key are asked about behind these.
-pub fn of_header(path: &[u8]) -> Option<Answer> {
+/// Why a header is turned down by itself: by 2 to 4, or by 5 to 8 or 28 at ingress. An empty table is sound, and clock,
+/// table and key are asked about behind these.
+pub fn of_header(path: &[u8], edition: Edition) -> Option<Answer> {
     if let Err(error) = expiration(path) {
         return Some(of_header_error(error));
     }
@@ -301,9 +321,9 @@ pub fn of_header(path: &[u8]) -> Option<Answer> {
         ScionNetworkTime::from_timestamp_secs(0),
         Interfaces { ids: &[], states: &[] },
     );
-    let answer = standard_path_ingress(&mut left, 0, now, &[0; 16], none, true);
-    let answer = of_ingress(answer).of_call(Call::Ingress, path, &left);
-    matches!(answer.number, 5..=8).then_some(answer)
+    let answer = edition.standard_path_ingress(&mut left, 0, now, &[0; 16], none, true);
+    let answer = of_ingress(answer).of_call(Call::Ingress, edition, path, &left);
+    matches!(answer.number, 5..=8 | 28).then_some(answer)
 }
 
 pub fn of_journey(answer: Result<Verdict, JourneyError>) -> Answer {

@@ -5,7 +5,7 @@ use crate::answers::{self, Answer};
 use crate::header::Header;
 use crate::plan::Station;
 use crate::sentences::Call;
-use standard_path::{handle_standard_path, AsRoutingAction, Interfaces, LocalAsRoutingAction, ScionNetworkTime};
+use standard_path::{AsRoutingAction, Edition, Interfaces, LocalAsRoutingAction, ScionNetworkTime};
 
 /// The station, counted from 0, and its answer.
 pub struct Stop {
@@ -14,7 +14,7 @@ pub struct Stop {
 }
 
 /// The first station that does not send the path on, or at the last that does not deliver it.
-pub fn stop(path: &[u8], stations: &[Station], reading: u32) -> Option<Stop> {
+pub fn stop(edition: Edition, path: &[u8], stations: &[Station], reading: u32) -> Option<Stop> {
     // The step reads and writes the header alone.
     let mut path = Header(path).parts().0.to_vec();
     let now = ScionNetworkTime::from_timestamp_secs(reading);
@@ -25,7 +25,7 @@ pub fn stop(path: &[u8], stations: &[Station], reading: u32) -> Option<Stop> {
             states: &states,
         };
         let before = path.clone();
-        let answer = handle_standard_path(&mut path, at.arrival, now, &at.key, table, false);
+        let answer = edition.handle_standard_path(&mut path, at.arrival, now, &at.key, table, false);
         let is_last = station + 1 == stations.len();
         match answer {
             Ok(AsRoutingAction::ForwardNextHop { .. }) if !is_last => {}
@@ -33,7 +33,7 @@ pub fn stop(path: &[u8], stations: &[Station], reading: u32) -> Option<Stop> {
             answer => {
                 return Some(Stop {
                     station,
-                    answer: answers::of_step(answer).of_call(Call::Journey, &before, &path),
+                    answer: answers::of_step(answer).of_call(Call::Journey, edition, &before, &path),
                 })
             }
         }

@@ -1,7 +1,7 @@
 //! The fields of a path header, read for showing them. Nothing is decided here: a byte past the end reads as 0, and a
 //! field that is not whole is none.
 
-use standard_path::expiration;
+use standard_path::{expiration, Edition};
 
 /// The bytes of a path, from its first on.
 #[derive(Clone, Copy)]
@@ -18,6 +18,12 @@ pub struct Segment {
     pub reached: usize,
     pub first_hop: usize,
     pub hops: usize,
+}
+
+impl Segment {
+    pub fn last_hop(&self) -> usize {
+        self.first_hop + self.hops - 1
+    }
 }
 
 pub struct Info {
@@ -58,9 +64,35 @@ impl<'a> Header<'a> {
         self.lengths().iter().filter(|&&length| length != 0).count()
     }
 
+    /// Whether the edition takes the path for one over a peering link: just its first two lengths are not 0, and P is set
+    /// in both info fields.
+    pub fn is_peering_path(&self, edition: Edition) -> bool {
+        let is_peering = |index: usize| self.info(index).is_some_and(|info| info.peering());
+        let has_two = matches!(self.lengths().map(|length| length > 0), [true, true, false]);
+        edition == Edition::Second && has_two && is_peering(0) && is_peering(1)
+    }
+
+    /// The two hops at the peering link: the first segment's last and the second's first.
+    pub fn peering_hops(&self, edition: Edition) -> Option<[usize; 2]> {
+        let [first, ..] = self.lengths();
+        self.is_peering_path(edition).then(|| [first - 1, first])
+    }
+
     /// How many stations the path asks for: one for each hop, but one for the two of a segment change.
-    pub fn stations(&self) -> usize {
-        self.hops() - self.infos() + 1
+    pub fn stations(&self, edition: Edition) -> usize {
+        match self.is_peering_path(edition) {
+            true => self.hops(),
+            false => self.hops() - self.infos() + 1,
+        }
+    }
+
+    /// The same as a rule, with what the other edition has where that is a peering path's.
+    pub fn stations_rule(&self, edition: Edition) -> String {
+        match (self.is_peering_path(Edition::Second), edition) {
+            (false, _) => "hops - infos + 1".into(),
+            (true, Edition::First) => format!("hops - infos + 1; with `--edition 2` for {}", self.hops()),
+            (true, Edition::Second) => "one for each hop of a peering path".into(),
+        }
     }
 
     /// How many bytes the header has by its lengths.
@@ -245,7 +277,7 @@ pub fn turned<T>(cons_dir: bool, [first, second]: [T; 2]) -> [T; 2] {
 #[cfg(test)]
 mod tests {
     use super::*;
-    use standard_path::HeaderError;
+    use standard_path::{HeaderError, Interfaces, ScionNetworkTime};
 
     #[test]
     fn a_header_ends_where_the_library_says_so() {
@@ -260,6 +292,28 @@ mod tests {
             };
             assert_eq!(expiration(&path[..size - 1]), Err(short));
             assert!(matches!(expiration(&path), Ok(_) | Err(HeaderError::TooManyHops)));
+        }
+    }
+
+    /// 28 is the library's answer where P is set on a path that is no peering path.
+    #[test]
+    fn a_peering_path_is_the_library_s() {
+        for word in [0x2000u32, 0x2080, 0x2002, 0x2082] {
+            for flags in 0..8u8 {
+                let mut path = vec![0; Header(&word.to_be_bytes()).size()];
+                path[..4].copy_from_slice(&word.to_be_bytes());
+                let infos = Header(&path).infos();
+                for index in 0..infos {
+                    path[4 + 8 * index] = (flags >> index & 1) << 1;
+                }
+                let is_set = usize::from(flags).trailing_zeros() < infos as u32;
+                let is_peering_path = Header(&path).is_peering_path(Edition::Second);
+                let (now, none) = (ScionNetworkTime(0), Interfaces { ids: &[], states: &[] });
+                let answer = Edition::Second.standard_path_ingress(&mut path, 0, now, &[0; 16], none, true);
+                let is_refused = answer.is_err_and(|refusal| refusal.number() == 28);
+                assert_eq!(is_refused, is_set && !is_peering_path, "{word:x} {flags}");
+                assert!(!Header(&path).is_peering_path(Edition::First));
+            }
         }
     }
 

@@ -4,7 +4,7 @@ use crate::interfaces::Interface;
 use crate::mistake::{mistake, Checked};
 use crate::plan::Station;
 use crate::report::sentences;
-use standard_path::{check_journey, JourneyError, ScionNetworkTime};
+use standard_path::{Edition, JourneyError, ScionNetworkTime};
 use std::collections::HashSet;
 
 pub const RECORD: usize = 32;
@@ -149,15 +149,22 @@ fn chain(bytes: &[u8], first: usize, of: &str, most: usize, remarks: &mut Vec<St
     records
 }
 
+/// The most stations of a path. Just a peering path of 64 hops has so many, in the second edition.
+pub const MOST_STATIONS: usize = 64;
+
 /// Whether question 23 would let the plan through for a path with as many stations as it has: the library's answer for
-/// a path of one segment with a hop for each. A path has at most 63 stations.
+/// a path with a hop for each, of one segment, or of two for more hops than a segment has.
 pub fn fits_some_path(bytes: &[u8], stations: usize) -> bool {
-    let length = stations.min(63);
-    let mut path = vec![0; 12 + 12 * length];
-    path[1] = (length >> 4) as u8;
-    path[2] = (length << 4) as u8;
+    let hops = stations.min(MOST_STATIONS);
+    let lengths = (hops.min(63) << 12 | (hops / 64) << 6) as u32;
+    let mut path = lengths.to_be_bytes().to_vec();
+    path.resize(4 + 8 * 2 + 12 * hops, 0);
+    if hops == MOST_STATIONS {
+        // P in both info fields.
+        (path[4], path[12]) = (2, 2);
+    }
     let at = ScionNetworkTime::from_timestamp_secs(0);
-    check_journey(&path, bytes, at, at) != Err(JourneyError::UnfitItinerary)
+    Edition::Second.check_journey(&path, bytes, at, at) != Err(JourneyError::UnfitItinerary)
 }
 
 #[cfg(test)]
@@ -165,7 +172,7 @@ mod tests {
     use super::*;
 
     #[test]
-    fn a_plan_of_1_to_63_stations_fits_some_path() {
+    fn a_plan_of_1_to_64_stations_fits_some_path() {
         for count in 0..=70 {
             let stations: Vec<Station> = (0..count)
                 .map(|arrival| Station {
@@ -179,7 +186,7 @@ mod tests {
             assert_eq!((read.stations, read.remarks), (stations, vec![]));
             assert_eq!(
                 fits_some_path(&bytes, count.into()),
-                (1..=63).contains(&count),
+                (1..=64).contains(&count),
                 "{count}"
             );
         }

@@ -9,6 +9,7 @@ mod by_hand;
 mod commands;
 mod dates;
 mod drive;
+mod edition;
 mod files;
 mod header;
 mod hex;

@@ -1,10 +1,11 @@
 //! What is seen in a path and a plan, to look at beside a refusal of the library. Nothing here is asked for a verdict.
 
+use crate::edition::NO_MEANING;
 use crate::header::Header;
-use crate::itinerary::{Read, RECORD};
+use crate::itinerary::{Read, MOST_STATIONS, RECORD};
 use crate::plan::Station;
 use crate::report::{counted, cut, sentences};
-use standard_path::{expiration, JourneyError};
+use standard_path::{expiration, Edition, JourneyError};
 
 /// A path that begins as a plan does, sound or not: the wrong file was named. The first record of a plan has the index of a
 /// station and zeros, but for slips, where a path has timestamps and MACs.
@@ -26,7 +27,12 @@ pub fn path_as_plan(plan: &[u8]) -> bool {
 }
 
 /// What is seen beside a refusal of a journey.
-pub fn beside(error: JourneyError, path: &[u8], (plan, read): (&[u8], &Read), readings: [u32; 2]) -> Vec<String> {
+pub fn beside(
+    (error, edition): (JourneyError, Edition),
+    path: &[u8],
+    (plan, read): (&[u8], &Read),
+    readings: [u32; 2],
+) -> Vec<String> {
     let header = Header(path);
     let mut seen = Vec::new();
     if plan_as_path(path) {
@@ -40,7 +46,7 @@ pub fn beside(error: JourneyError, path: &[u8], (plan, read): (&[u8], &Read), re
         return seen;
     }
     match error {
-        JourneyError::UnfitItinerary => seen.extend(in_plan(header, read, readings)),
+        JourneyError::UnfitItinerary => seen.extend(in_plan(edition, header, read, readings)),
         JourneyError::NotAtStart => {
             seen.push(format!("CurrINF {}, CurrHF {}", header.curr_inf(), header.curr_hf()));
             seen.extend(gap(header));
@@ -53,11 +59,12 @@ pub fn beside(error: JourneyError, path: &[u8], (plan, read): (&[u8], &Read), re
 }
 
 /// What is odd comes first, then what plan and path say of arrivals.
-fn in_plan(header: Header<'_>, read: &Read, [earliest, latest]: [u32; 2]) -> Vec<String> {
+fn in_plan(edition: Edition, header: Header<'_>, read: &Read, [earliest, latest]: [u32; 2]) -> Vec<String> {
     let (stations, mut seen) = (&read.stations, Vec::new());
-    let (count, asked) = (counted(stations.len(), "station"), header.stations());
+    let (count, asked) = (counted(stations.len(), "station"), header.stations(edition));
     if stations.len() != asked {
-        seen.push(format!("{count}; the path asks for {asked} (hops - infos + 1)"));
+        let rule = header.stations_rule(edition);
+        seen.push(format!("{count}; the path asks for {asked} ({rule})"));
     }
     if earliest > latest {
         seen.push("the earliest reading is after the latest".into());
@@ -65,10 +72,7 @@ fn in_plan(header: Header<'_>, read: &Read, [earliest, latest]: [u32; 2]) -> Vec
     seen.extend(odd_stations(stations));
     seen.extend(read.remarks.clone());
     seen.extend(gap(header));
-    if peering(header).next().is_some() {
-        let note = "P is set: a path over a peering link has a station for each of its two hops, which this check does not know";
-        seen.push(note.into());
-    }
+    seen.extend(odd_peering(edition, header));
     if stations.len() == asked {
         seen.push(format!("{count}, as the path asks for"));
     }
@@ -82,6 +86,16 @@ fn gap(header: Header<'_>) -> Option<String> {
     header
         .has_gap()
         .then(|| "an empty segment stands before a used one".into())
+}
+
+/// P without a meaning, or where no peering path has it.
+fn odd_peering(edition: Edition, header: Header<'_>) -> Option<String> {
+    let is_odd = peering(header).next().is_some() && !header.is_peering_path(edition);
+    let said = match edition {
+        Edition::First => NO_MEANING,
+        Edition::Second => "P is set, and the path is no peering path (28)",
+    };
+    is_odd.then(|| said.into())
 }
 
 /// The info fields with P set.
@@ -113,11 +127,11 @@ fn ways_in(header: Header<'_>) -> String {
     }
 }
 
-/// A list for reading, cut where no path goes on: it has 63 stations at most.
+/// A list for reading, cut where no path goes on.
 fn listed(words: Vec<String>) -> String {
     match words.is_empty() {
         true => "none".into(),
-        false => cut(words, 63).join(", "),
+        false => cut(words, MOST_STATIONS).join(", "),
     }
 }
 

@@ -1,7 +1,8 @@
-//! What each number from 1 to 25 says, and what to do about it. docs/GUIDE.md has the same words in a table.
+//! What each number of a refusal says, and what to do about it. docs/GUIDE.md has the same words in a table.
 
 use crate::header::Header;
 use crate::json::Json;
+use standard_path::Edition;
 
 /// A question of the scope document that was answered no.
 pub struct Question {
@@ -153,6 +154,13 @@ const QUESTIONS: [Question; 25] = [
     ),
 ];
 
+const MISPLACED_PEERING: Question = question(
+    "P in no info field, or a peering path?",
+    "P is set in an info field, and the path is no peering path: that has P in both info fields, and hops in its first two \
+     segments alone.",
+    "Write `peering yes` in both segments of a path of two, or in no segment, and sign again with `--edition 2`.",
+);
+
 // ---- numbers with more than one question, or more than one thing to do
 
 const NO_HOP: Question = question(
@@ -237,6 +245,14 @@ const MAC_IN_JOURNEY: Question = question(
      signed again with this plan (`rehearse sign TEXT --plan PLAN`), its hops without `mac`.",
 );
 
+const PEERING_PLAN: Question = question(
+    "Itinerary sound, each table too, station count = hops, first arrival 0, later ones not, earliest at most latest?",
+    "The plan is not sound, does not fit the path over a peering link, or the readings are out of order.",
+    "Add the hop that the path lacks, or correct the plan: one station for each hop, each of the two at the peering link too, \
+     arrival 0 at the first station only, interfaces in ascending order, each number once, with states 0 to 7, at most 64 \
+     stations; and no earliest reading after the latest.",
+);
+
 /// Which call gave an answer.
 #[derive(Clone, Copy, PartialEq, Eq)]
 pub enum Call {
@@ -248,7 +264,12 @@ pub enum Call {
 }
 
 /// The question behind a refusal. Which of a number's questions it is, is seen in the values and the path left.
-pub fn of_call(call: Call, number: u16, values: &[(&'static str, Json)], left: &[u8]) -> Option<&'static Question> {
+pub fn of_call(
+    (call, edition): (Call, Edition),
+    number: u16,
+    values: &[(&'static str, Json)],
+    left: &[u8],
+) -> Option<&'static Question> {
     let value = |name: &str| values.iter().find(|(value, _)| *value == name).map(|(_, value)| value);
     let (header, curr_hf) = (Header(left), u64::from(Header(left).curr_hf()));
     let is_zero = value("interface") == Some(&Json::Number(0));
@@ -257,7 +278,8 @@ pub fn of_call(call: Call, number: u16, values: &[(&'static str, Json)], left: &
     let is_next = value("index") == Some(&Json::Number(curr_hf + 1));
     let segments = header.segments();
     let mut later = segments.iter().skip(1).map(|segment| Json::number(segment.first_hop));
-    let starts_segment = later.any(|first| value("hop_index") == Some(&first));
+    // Over a peering link no segment changes.
+    let starts_segment = !header.is_peering_path(edition) && later.any(|first| value("hop_index") == Some(&first));
     let is_alone = segments
         .iter()
         .any(|segment| segment.hops == 1 && segment.first_hop as u64 == curr_hf);
@@ -279,13 +301,24 @@ pub fn of_call(call: Call, number: u16, values: &[(&'static str, Json)], left: &
     }
 }
 
-/// The question with a number, if it is one of 1 to 25.
-pub fn of_number(number: u16) -> Option<&'static Question> {
-    QUESTIONS.get(usize::from(number).checked_sub(1)?)
+/// The question behind a refusal of a journey.
+pub fn of_check(edition: Edition, number: u16, path: &[u8]) -> Option<&'static Question> {
+    match number {
+        23 if Header(path).is_peering_path(edition) => Some(&PEERING_PLAN),
+        _ => of_number(number),
+    }
 }
 
-/// The questions beside the 25, by number.
-const OTHERS: [(u16, &Question); 13] = [
+/// The question with a number, if it is one of 1 to 25 or 28.
+pub fn of_number(number: u16) -> Option<&'static Question> {
+    match number {
+        28 => Some(&MISPLACED_PEERING),
+        _ => QUESTIONS.get(usize::from(number).checked_sub(1)?),
+    }
+}
+
+/// The questions beside these, by number.
+const OTHERS: [(u16, &Question); 14] = [
     (5, &NO_HOP),
     (5, &ANOTHER_HOP),
     (5, &LAST_SEGMENT_OF_ONE),
@@ -299,6 +332,7 @@ const OTHERS: [(u16, &Question); 13] = [
     (15, &EGRESS_LISTED),
     (15, &NO_EGRESS),
     (18, &SEGMENT_OF_ONE),
+    (23, &PEERING_PLAN),
 ];
 
 /// All that a number can mean.
@@ -317,7 +351,7 @@ mod tests {
     #[test]
     fn the_guide_has_the_same_words() {
         let guide = include_str!("../../../docs/GUIDE.md");
-        for number in 1..=25 {
+        for &number in standard_path::REFUSALS {
             for Question { asked, no, advice } in all_of(number) {
                 let row = format!("| {number} | {asked} | {no} | {advice} |");
                 assert!(
@@ -332,7 +366,12 @@ mod tests {
                     .trim_start_matches("| ")
                     .starts_with(|letter: char| letter.is_ascii_digit())
         };
-        assert_eq!(guide.lines().filter(is_row).count(), 25 + OTHERS.len());
-        assert!(of_number(0).is_none() && of_number(26).is_none() && of_number(100).is_none());
+        let rows = standard_path::REFUSALS.len() + OTHERS.len();
+        assert_eq!(guide.lines().filter(is_row).count(), rows);
+        let has_question = |number: &u16| of_number(*number).is_some();
+        assert_eq!(
+            (0..=130).filter(has_question).collect::<Vec<_>>(),
+            standard_path::REFUSALS
+        );
     }
 }

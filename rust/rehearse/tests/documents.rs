@@ -88,7 +88,7 @@ fn the_demonstration_s_calls_can_be_typed() {
         .lines()
         .filter_map(|line| line.strip_prefix("    $ rehearse "))
         .collect();
-    assert_eq!(calls.len(), 8);
+    assert_eq!(calls.len(), 10);
     for call in calls {
         let ran = folder.run(call);
         let indented: String = ran.out.lines().map(|line| format!("    {line}\n")).collect();

@@ -103,18 +103,18 @@ fn each_text_form_in_a_help_can_be_copied() {
 #[test]
 fn each_option_is_in_its_help() {
     let folder = Folder::new();
-    let step = "--table --key --plan --station --interface --now --ignore-macs --write --raw --hex --json";
+    let step = "--table --key --plan --station --interface --now --ignore-macs --edition --write --raw --hex --json";
     for (command, options) in [
         ("demo", "--write --json"),
-        ("show", "--raw --hex --json"),
+        ("show", "--edition --raw --hex --json"),
         ("step", step),
         ("ingress", step),
         ("egress", step),
-        ("journey", "--earliest --latest --batch --raw --hex --json"),
-        ("reverse", "--write --raw --hex --json"),
-        ("expiration", "--raw --hex --json"),
+        ("journey", "--earliest --latest --batch --edition --raw --hex --json"),
+        ("reverse", "--write --edition --raw --hex --json"),
+        ("expiration", "--edition --raw --hex --json"),
         ("plan", "-o --show --raw --hex --json"),
-        ("sign", "--plan -o --show --raw --hex --json"),
+        ("sign", "--plan -o --show --edition --raw --hex --json"),
     ] {
         for option in options.split(' ') {
             let help = stored(command);

@@ -127,18 +127,18 @@ fn what_is_odd_about_a_header_is_said() {
 }
 
 #[test]
-fn a_plan_of_64_stations_fits_no_path() {
+fn a_plan_of_65_stations_fits_no_path() {
     let folder = Folder::new();
     let station = |arrival: usize| format!("station\narrival {arrival}\nkey 000102030405060708090a0b0c0d0e0f\n");
-    folder.write("plan.txt", (0..64).map(station).collect::<String>());
+    folder.write("plan.txt", (0..65).map(station).collect::<String>());
     let ran = folder.run("plan plan.txt -o x");
     assert!(
-        ran.err.contains("it has 64 stations, and no path has more than 63"),
+        ran.err.contains("it has 65 stations, and no path has more than 64"),
         "{}",
         ran.err
     );
     assert!(folder.run("plan --show x").out.starts_with("# question 23"));
-    folder.write("plan.txt", (0..63).map(station).collect::<String>());
+    folder.write("plan.txt", (0..64).map(station).collect::<String>());
     assert_eq!(folder.run("plan plan.txt -o x").err, "");
 }
 

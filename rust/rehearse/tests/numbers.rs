@@ -1,4 +1,4 @@
-//! Each number from 1 to 25 as an operator meets it: the call, the answer, its question and what to do, as stored.
+//! Each number of a refusal as an operator meets it: the call, the answer, its question and what to do, as stored.
 
 mod common;
 
@@ -90,6 +90,12 @@ fn cases() -> Vec<(u64, &'static str, &'static str, Vec<String>)> {
             "hop in 21 out 22 lasts 6h",
             "hop in 21 out 22 lasts 6h alert egress",
             journey(),
+        ),
+        (
+            28,
+            "cons_dir no\n",
+            "cons_dir no\n    peering yes\n",
+            first("step path --edition 2"),
         ),
     ]
 }

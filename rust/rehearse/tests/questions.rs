@@ -647,7 +647,7 @@ fn what_no_question_asks_for_stands_beside_a_pass() {
             &["hop 1 has `out 14` at a segment change: a reply is turned down there (9)"],
         ),
         ("same.path", "site.plan", &[]),
-        ("peers.path", "site.plan", &["segment 0 has P set, and no answer depends on it"]),
+        ("peers.path", "site.plan", &["P is set, which has no meaning in edition 1: `--edition 2` has the draft's peering rule"]),
         (
             "up.path",
             "plan.txt",

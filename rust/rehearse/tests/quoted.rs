@@ -241,6 +241,10 @@ fn a_key_in_the_wrong_place_of_a_call_is_not_told() {
             "does not go with --batch",
         ),
         (vec!["sign", "good.txt", "--plan", KEY, "-o", "x"], NAME),
+        (
+            vec!["show", "good.path", "--edition", KEY],
+            "a word of 32 letters that may hold a key is no edition",
+        ),
         (vec!["show", KEY], NAME),
         (vec!["plan", "--show", KEY], NAME),
         (vec![KEY], "a word of 32 letters that may hold a key is not a command"),

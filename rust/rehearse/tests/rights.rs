@@ -60,10 +60,10 @@ fn a_new_file_with_keys_is_its_owner_s_alone() {
         let ran = folder.shell(&format!("umask 002; rehearse {call}"));
         assert_eq!(ran.status, 0, "{call}: {ran:?}");
     }
-    for name in "plan.txt site.plan new.plan new.hex behind-link copy copy.hex".split(' ') {
+    for name in "plan.txt peering-plan.txt site.plan new.plan new.hex behind-link copy copy.hex".split(' ') {
         assert_eq!(format!("{:o}", rights(&folder, name)), "600", "{name}");
     }
-    for name in "good.txt late.txt good.path late.path back.path good.hex".split(' ') {
+    for name in "good.txt late.txt peering.txt good.path late.path peering.path back.path good.hex".split(' ') {
         assert_eq!(format!("{:o}", rights(&folder, name)), "664", "{name}");
     }
 }

@@ -279,7 +279,14 @@ fn the_example_is_written_whole_or_not_at_all() {
         let ran = folder.call(call, b"");
         assert!(ran.status == 2 && ran.err.contains("--write takes a folder"), "{ran:?}");
     }
-    for name in ["plan.txt", "late.txt", "site.plan", "late.path"] {
+    for name in [
+        "plan.txt",
+        "late.txt",
+        "peering-plan.txt",
+        "site.plan",
+        "late.path",
+        "peering.path",
+    ] {
         let in_the_way = folder.0.join("half").join(name);
         std::fs::create_dir_all(&in_the_way).unwrap();
         let ran = folder.run("demo --write half");

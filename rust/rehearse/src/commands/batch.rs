@@ -4,6 +4,7 @@ use super::journey::{between, check, Between, Checking};
 use super::names;
 use crate::answers::Answer;
 use crate::arguments::Arguments;
+use crate::edition;
 use crate::files::{shown, without_mark, Files};
 use crate::json::Json;
 use crate::mistake::{mistake, Checked, Mistake};
@@ -62,6 +63,7 @@ pub fn run(arguments: &Arguments, files: &Files) -> Checked<Report> {
     }
     lines.finish()?;
     let mut report = summary.report(count);
+    edition::tell(between.edition, &mut report);
     report.notes = between.notes;
     Ok(report)
 }

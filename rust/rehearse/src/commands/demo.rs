@@ -21,21 +21,32 @@ pub const FORM: Form = Form {
 };
 
 /// The files of examples/site.
-const FILES: [(&str, &str); 3] = [
+const FILES: [(&str, &str); 5] = [
     ("plan.txt", include_str!("../../../../examples/site/plan.txt")),
     ("good.txt", include_str!("../../../../examples/site/good.txt")),
     ("late.txt", include_str!("../../../../examples/site/late.txt")),
+    (
+        "peering-plan.txt",
+        include_str!("../../../../examples/site/peering-plan.txt"),
+    ),
+    ("peering.txt", include_str!("../../../../examples/site/peering.txt")),
 ];
 
 const PLAN: &str = "plan plan.txt -o site.plan";
 const GOOD: &str = "sign good.txt --plan site.plan -o good.path";
 const LATE: &str = "sign late.txt --plan site.plan -o late.path";
+const PEERING: &str = "sign peering.txt --plan peering-plan.txt --edition 2 -o peering.path";
 
 /// The other files of the example, and the calls that make them.
-const MADE: [(&str, &str); 3] = [("site.plan", PLAN), ("good.path", GOOD), ("late.path", LATE)];
+const MADE: [(&str, &str); 4] = [
+    ("site.plan", PLAN),
+    ("good.path", GOOD),
+    ("late.path", LATE),
+    ("peering.path", PEERING),
+];
 
 /// What is said, and the call behind it.
-const STEPS: [(&str, &str); 8] = [
+const STEPS: [(&str, &str); 10] = [
     (
         "The plan in plan.txt becomes bytes, as the journey check reads them.",
         PLAN,
@@ -67,6 +78,15 @@ const STEPS: [(&str, &str); 8] = [
     (
         "The same at one in the afternoon, an hour after the hop has ended.",
         "step good.path --plan site.plan --station 0 --now 2026-11-16T13:00:00Z",
+    ),
+    (
+        "Hall B and the haulier next door are joined by a peering link. The path in peering.txt goes over it, and\n\
+         peering-plan.txt has the stations of both operators. Edition 2 of the rules knows such a path.",
+        PEERING,
+    ),
+    (
+        "It travels too. Each of its four hops has a station of its own.",
+        "journey peering.path peering-plan.txt --edition 2 --earliest 2026-11-16T06:05:00Z --latest 2026-11-16T11:00:00Z",
     ),
 ];
 
@@ -126,7 +146,7 @@ fn site() -> Files {
 
 fn holds(name: &str) -> Holds {
     match name {
-        "plan.txt" | "site.plan" => Holds::Keys,
+        "plan.txt" | "site.plan" | "peering-plan.txt" => Holds::Keys,
         _ => Holds::NoKeys,
     }
 }

@@ -3,6 +3,7 @@
 use super::{path_to_ask, spelling, PATH};
 use crate::answers;
 use crate::arguments::{Arguments, Form};
+use crate::edition;
 use crate::files::Files;
 use crate::header::Header;
 use crate::mistake::Checked;
@@ -11,11 +12,13 @@ use crate::report::Report;
 pub const FORM: Form = Form {
     command: "expiration",
     places: &["PATH"],
-    values: &[],
+    values: &[edition::OPTION],
     flags: &["--json", "--raw", "--hex"],
 };
 
 pub fn run(arguments: &Arguments, files: &Files) -> Checked<Report> {
+    // A path ends at the same time in each edition.
+    edition::of(arguments)?;
     let path = path_to_ask(files, arguments.file(0, PATH)?, spelling(arguments)?)?;
     let answer = answers::of_expiration(standard_path::expiration(&path));
     let mut report = Report::of("expiration", &answer);

@@ -5,6 +5,7 @@ use crate::answers::{self, Answer};
 use crate::arguments::{Arguments, Form};
 use crate::dates;
 use crate::drive;
+use crate::edition;
 use crate::files::{Files, Spelling};
 use crate::header::Header;
 use crate::itinerary::{self, Read};
@@ -14,7 +15,7 @@ use crate::not_asked;
 use crate::plan;
 use crate::report::{counted, Report};
 use crate::seen;
-use standard_path::{check_journey, ScionNetworkTime, Verdict};
+use standard_path::{Edition, ScionNetworkTime, Verdict};
 use std::ffi::OsStr;
 
 pub const FORM: Form = Form {
@@ -24,12 +25,14 @@ pub const FORM: Form = Form {
         ("--earliest", "the earliest reading of a clock: seconds or a date"),
         ("--latest", "the latest reading of a clock: seconds or a date"),
         ("--batch", "a file with a path and a plan on each line"),
+        edition::OPTION,
     ],
     flags: &["--json", "--raw", "--hex"],
 };
 
-/// The two readings, and how files are read.
+/// The edition and the two readings, and how files are read.
 pub struct Between {
+    pub edition: Edition,
     pub earliest: u32,
     pub latest: u32,
     pub spelling: Spelling,
@@ -52,6 +55,7 @@ pub fn run(arguments: &Arguments, files: &Files) -> Checked<Report> {
 pub fn between(arguments: &Arguments) -> Checked<Between> {
     let mut notes = Vec::new();
     Ok(Between {
+        edition: edition::of(arguments)?,
         earliest: reading(arguments, "--earliest", &mut notes)?,
         latest: reading(arguments, "--latest", &mut notes)?,
         spelling: spelling(arguments)?,
@@ -71,17 +75,18 @@ pub struct Checking {
 pub fn check(files: &Files, path: &OsStr, plan: &OsStr, between: &Between) -> Checked<Checking> {
     let path = files.read_path(path, between.spelling)?;
     let plan = plan::read(files, plan, between.spelling)?;
-    let readings = [between.earliest, between.latest];
+    let (edition, readings) = (between.edition, [between.earliest, between.latest]);
     let [earliest, latest] = readings.map(ScionNetworkTime::from_timestamp_secs);
-    let verdict = check_journey(&path, &plan, earliest, latest);
-    let answer = answers::of_journey(verdict);
+    let verdict = edition.check_journey(&path, &plan, earliest, latest);
+    let answer = answers::of_journey(verdict).of_check(edition, &path);
 
     let mut report = Report::headed("journey", &answer);
     let read = itinerary::read(&plan);
     asked(&path, &read, readings, &mut report);
+    edition::tell(edition, &mut report);
     let why = match verdict {
         Ok(Verdict::Passed) => {
-            let seen = not_asked::beside_pass(Header(&path), &read.stations);
+            let seen = not_asked::beside_pass(edition, Header(&path), &read.stations);
             let more = match seen.len() {
                 0 | 1 => String::new(),
                 count => format!(" (and {} more)", count - 1),
@@ -89,9 +94,9 @@ pub fn check(files: &Files, path: &OsStr, plan: &OsStr, between: &Between) -> Ch
             let first = report.list("not asked", "not_asked", seen);
             first.map(|first| format!("not asked: {first}{more}"))
         }
-        Ok(Verdict::NotPassed { .. }) => where_it_stops(&path, &read.stations, readings, &mut report),
+        Ok(Verdict::NotPassed { .. }) => where_it_stops((edition, &path), &read.stations, readings, &mut report),
         Err(error) => {
-            let seen = seen::beside(error, &path, (&plan, &read), readings);
+            let seen = seen::beside((error, edition), &path, (&plan, &read), readings);
             report.list("seen", "seen", seen).or(Some(answer.sentence.clone()))
         }
     };
@@ -122,9 +127,14 @@ fn asked(path: &[u8], read: &Read, [earliest, latest]: [u32; 2], report: &mut Re
 
 /// Drives the path with every clock at the earliest reading, then at the latest, until a station holds it. Gives that in a
 /// sentence.
-fn where_it_stops(path: &[u8], stations: &[plan::Station], readings: [u32; 2], report: &mut Report) -> Option<String> {
+fn where_it_stops(
+    (edition, path): (Edition, &[u8]),
+    stations: &[plan::Station],
+    readings: [u32; 2],
+    report: &mut Report,
+) -> Option<String> {
     for reading in readings {
-        let Some(drive::Stop { station, answer }) = drive::stop(path, stations, reading) else {
+        let Some(drive::Stop { station, answer }) = drive::stop(edition, path, stations, reading) else {
             report.line("arrives", format!("with every clock at {}", dates::both(reading)));
             continue;
         };

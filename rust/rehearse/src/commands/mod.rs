@@ -106,7 +106,7 @@ pub fn run(words: &[OsString], files: &Files) -> Said {
     }
 }
 
-/// What a number from 1 to 25 means.
+/// What the number of a refusal means.
 fn about_number(word: &str) -> Option<Said> {
     let number = word.parse().ok().filter(|_| !word.starts_with('+'))?;
     let mut text = String::new();

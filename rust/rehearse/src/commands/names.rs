@@ -30,8 +30,18 @@ fn further(command: &str) -> &'static [&'static str] {
             "bytes_behind",
             "expiration",
             "segments",
+            "edition",
+            "peering_hops",
         ],
-        "step" | "ingress" | "egress" => &["now", "named_hops", "bytes_changed", "path", "bytes_behind", "written"],
+        "step" | "ingress" | "egress" => &[
+            "now",
+            "named_hops",
+            "bytes_changed",
+            "path",
+            "bytes_behind",
+            "written",
+            "edition",
+        ],
         "reverse" => &["bytes_changed", "path", "bytes_behind", "written"],
         "journey" => &[
             "hops",
@@ -51,6 +61,7 @@ fn further(command: &str) -> &'static [&'static str] {
             "refused",
             "refused_by",
             "not_read",
+            "edition",
         ],
         "plan" => &["stations", "fits_some_path", "plan", "remarks", "text", "written"],
         "sign" => &[
@@ -61,6 +72,7 @@ fn further(command: &str) -> &'static [&'static str] {
             "path",
             "text",
             "written",
+            "edition",
         ],
         _ => &[],
     }

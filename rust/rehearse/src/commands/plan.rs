@@ -5,7 +5,7 @@ use crate::answers;
 use crate::arguments::{Arguments, Form};
 use crate::files::{shown, Files, Made};
 use crate::hex;
-use crate::itinerary::{self, Read};
+use crate::itinerary::{self, Read, MOST_STATIONS};
 use crate::json::Json;
 use crate::mistake::Checked;
 use crate::plan;
@@ -77,8 +77,10 @@ pub fn turned_down(plan: &[u8], read: &Read) -> Option<String> {
     let mut odd = Vec::new();
     match count {
         0 => odd.push("it has no station".into()),
-        1..=63 => {}
-        _ => odd.push(format!("it has {count} stations, and no path has more than 63")),
+        1..=MOST_STATIONS => {}
+        _ => odd.push(format!(
+            "it has {count} stations, and no path has more than {MOST_STATIONS}"
+        )),
     }
     odd.extend(seen::odd_stations(&read.stations));
     odd.extend(read.remarks.iter().take(1).cloned());

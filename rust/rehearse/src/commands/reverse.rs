@@ -3,6 +3,7 @@
 use super::{left_file, read_path, write_left};
 use crate::answers;
 use crate::arguments::{Arguments, Form};
+use crate::edition;
 use crate::files::Files;
 use crate::header::Header;
 use crate::mistake::Checked;
@@ -11,12 +12,14 @@ use crate::report::Report;
 pub const FORM: Form = Form {
     command: "reverse",
     places: &["PATH"],
-    values: &[("--write", "a file to write the path to")],
+    values: &[("--write", "a file to write the path to"), edition::OPTION],
     flags: &["--json", "--raw", "--hex"],
 };
 
 pub fn run(arguments: &Arguments, files: &Files) -> Checked<Report> {
     let file = left_file(arguments)?;
+    // A path is turned around alike in each edition.
+    edition::of(arguments)?;
     let before = read_path(arguments, files)?;
     let mut path = before.clone();
     let answer = answers::of_reversal(standard_path::try_reverse(&mut path));

@@ -1,9 +1,10 @@
 //! `rehearse show`: a path header in words and numbers.
 
 use super::read_path;
-use crate::answers::{self, Answer};
+use crate::answers;
 use crate::arguments::{Arguments, Form};
 use crate::dates;
+use crate::edition;
 use crate::files::Files;
 use crate::header::{Header, Hop, Info, Segment};
 use crate::hex::to_hex;
@@ -11,24 +12,31 @@ use crate::hop_words;
 use crate::json::Json;
 use crate::mistake::Checked;
 use crate::report::{counted, Report};
-use standard_path::{calculate_segment_index, expiration};
+use standard_path::{calculate_segment_index, expiration, Edition};
 
 pub const FORM: Form = Form {
     command: "show",
     places: &["PATH"],
-    values: &[],
+    values: &[edition::OPTION],
     flags: &["--json", "--raw", "--hex"],
 };
 
 pub fn run(arguments: &Arguments, files: &Files) -> Checked<Report> {
+    let edition = edition::of(arguments)?;
     let path = read_path(arguments, files)?;
     let header = Header(&path);
-    let mut report = match answers::of_header(&path) {
+    let answer = answers::of_header(&path, edition);
+    let mut report = match &answer {
         None => whole(header),
-        Some(answer) if answer.number == 2 => return Ok(too_short(&path, &answer)),
-        Some(answer) => Report::of("show", &answer),
+        Some(answer) => Report::of("show", answer),
     };
+    edition::tell(edition, &mut report);
+    if answer.is_some_and(|answer| answer.number == 2) {
+        too_short(&path, &mut report);
+        return Ok(report);
+    }
     meta(header, &mut report);
+    peering_hops(edition, header, &mut report);
     let used = header.segments();
     let mut segments: Vec<Json> = used
         .iter()
@@ -42,13 +50,11 @@ pub fn run(arguments: &Arguments, files: &Files) -> Checked<Report> {
 }
 
 /// Less than a meta word: there is nothing to show but the bytes.
-fn too_short(path: &[u8], answer: &Answer) -> Report {
-    let mut report = Report::of("show", answer);
+fn too_short(path: &[u8], report: &mut Report) {
     let bytes = if path.is_empty() { "none".into() } else { to_hex(path) };
     report.line("bytes read", bytes);
     report.member("bytes_read", Json::number(path.len()));
     report.member("bytes_behind", Json::number(0));
-    report
 }
 
 fn whole(header: Header<'_>) -> Report {
@@ -103,6 +109,16 @@ fn meta(header: Header<'_>, report: &mut Report) {
     report.member("bytes_read", Json::number(header.0.len()));
     report.member("bytes_behind", Json::number(header.parts().1.len()));
     report.member("expiration", expires.map_or(Json::Null, Json::number));
+}
+
+/// The hops at a peering link, in the edition that has one.
+fn peering_hops(edition: Edition, header: Header<'_>, report: &mut Report) {
+    let hops = header.peering_hops(edition);
+    if let Some([near, far]) = hops {
+        report.line("peering hops", format!("{near} and {far}"));
+    }
+    let indices = hops.into_iter().flatten().map(Json::number);
+    report.member("peering_hops", Json::List(indices.collect()));
 }
 
 /// The info field that the step takes for a segment, and its hops.

@@ -5,6 +5,7 @@ use super::{made_file, made_word, no_spelling, path_lines, path_to_show, spellin
 use crate::answers::{self, Answer};
 use crate::arguments::{Arguments, Form};
 use crate::dates;
+use crate::edition;
 use crate::files::{shown, Files, Made};
 use crate::header::Header;
 use crate::hex;
@@ -16,7 +17,7 @@ use crate::report::{counted, Report};
 use crate::signing::{self, Signed};
 use crate::write::Holds;
 use crate::{path_words, plan};
-use standard_path::{expiration, HeaderError};
+use standard_path::{expiration, Edition, HeaderError};
 use std::ffi::OsStr;
 
 pub const FORM: Form = Form {
@@ -29,6 +30,7 @@ pub const FORM: Form = Form {
             "a file to write the path to, or - for hex text on standard output",
         ),
         ("--show", "a path to show as text"),
+        edition::OPTION,
     ],
     flags: &["--json", "--raw", "--hex"],
 };
@@ -44,6 +46,7 @@ pub fn run(arguments: &Arguments, files: &Files) -> Checked<Report> {
 fn write(arguments: &Arguments, files: &Files) -> Checked<Report> {
     let name = arguments.file(0, "the file with the path's text form")?;
     let file = made_file(arguments)?;
+    let edition = edition::of(arguments)?;
     let plan_name = arguments.value("--plan");
     let spelling = match plan_name {
         None => no_spelling(arguments)?,
@@ -57,13 +60,13 @@ fn write(arguments: &Arguments, files: &Files) -> Checked<Report> {
     let read = plan.as_deref().map(itinerary::read);
     let stations = read.iter().flat_map(|read| &read.stations);
     let keys: Vec<_> = stations.map(|station| station.key).collect();
-    let signed = signing::sign(&text, &keys)?;
-    let mut report = told(&signed, made_word(file));
+    let signed = signing::sign(&text, &keys, edition)?;
+    let mut report = told(edition, &signed, made_word(file));
     report
         .notes
         .extend(text.segments.into_iter().flatten().filter_map(|segment| segment.note));
     if let (Some(plan), Some(read)) = (&plan, &read) {
-        report.notes.extend(about_plan(&signed, plan, read));
+        report.notes.extend(about_plan(edition, &signed, plan, read));
     }
     if let Some(note) = without_key(&signed, read.map(|read| read.stations.len())) {
         report.notes.push(note);
@@ -79,10 +82,10 @@ fn write(arguments: &Arguments, files: &Files) -> Checked<Report> {
 }
 
 /// What was made.
-fn told(signed: &Signed, word: &'static str) -> Report {
+fn told(edition: Edition, signed: &Signed, word: &'static str) -> Report {
     let header = Header(&signed.bytes);
     let ends = expiration(&signed.bytes);
-    let refused = answers::of_header(&signed.bytes);
+    let refused = answers::of_header(&signed.bytes, edition);
     let mut report = match &refused {
         None => Report::done("sign", word, String::new()),
         Some(answer) => Report::of("sign", answer),
@@ -91,6 +94,7 @@ fn told(signed: &Signed, word: &'static str) -> Report {
     if let Ok(time @ 1..) = ends {
         report.line("expires", dates::both(time));
     }
+    edition::tell(edition, &mut report);
     report.member("hops", Json::number(header.hops()));
     report.member("infos", Json::number(header.infos()));
     report.member("macs_worked_out", Json::number(signed.worked_out));
@@ -134,15 +138,13 @@ fn gap(header: Header<'_>) -> Option<String> {
 }
 
 /// What is odd about the plan that was given.
-fn about_plan(signed: &Signed, plan: &[u8], read: &Read) -> Vec<String> {
+fn about_plan(edition: Edition, signed: &Signed, plan: &[u8], read: &Read) -> Vec<String> {
     let (header, stations) = (Header(&signed.bytes), &read.stations);
     let mut notes: Vec<String> = turned_down(plan, read).into_iter().collect();
-    if stations.len() != header.stations() {
-        notes.push(format!(
-            "the plan has {}, and this path asks for {} (hops - infos + 1)",
-            counted(stations.len(), "station"),
-            header.stations()
-        ));
+    let asked = header.stations(edition);
+    if stations.len() != asked {
+        let (count, rule) = (counted(stations.len(), "station"), header.stations_rule(edition));
+        notes.push(format!("the plan has {count}, and this path asks for {asked} ({rule})"));
     }
     if header.hops() > 0 && signed.worked_out == 0 && signed.unsigned.is_empty() {
         notes.push("--plan had no effect: each hop has a `mac` of its own".into());
@@ -174,6 +176,8 @@ fn show(arguments: &Arguments, files: &Files, name: &OsStr) -> Checked<Report> {
             return arguments.wrong(format!("--show prints the text, and takes no {option}: {instead}"));
         }
     }
+    // The text form is the same in each edition.
+    edition::of(arguments)?;
     let path = path_to_show(files, name, spelling(arguments)?)?;
     let behind = Header(&path).parts().1.len();
     let is_too_long = behind > MOST_BEHIND;

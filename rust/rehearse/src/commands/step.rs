@@ -5,14 +5,13 @@ use super::{left_file, read_path, reading, spelling, write_left, PATH};
 use crate::answers::{self, Answer};
 use crate::arguments::{Arguments, Form};
 use crate::dates;
+use crate::edition;
 use crate::files::Files;
 use crate::json::Json;
 use crate::mistake::Checked;
 use crate::report::Report;
 use crate::sentences::Call;
-use standard_path::{
-    handle_standard_path, standard_path_egress, standard_path_ingress, ForwardingKey, Interfaces, ScionNetworkTime,
-};
+use standard_path::{Edition, ForwardingKey, Interfaces, ScionNetworkTime};
 
 const fn form(command: &'static str) -> Form {
     Form {
@@ -28,6 +27,7 @@ const fn form(command: &'static str) -> Form {
             ("--station", "the station's place in the plan, counted from 0"),
             ("--interface", "the interface's number"),
             ("--now", "the reading of the clock: seconds or a date"),
+            edition::OPTION,
             ("--write", "a file to write the path to"),
         ],
         flags: &["--ignore-macs", "--json", "--raw", "--hex"],
@@ -40,6 +40,7 @@ pub const EGRESS: Form = form("egress");
 
 /// What a station is given beside the path.
 struct At<'a> {
+    edition: Edition,
     interface: u16,
     /// The reading of its clock.
     now: u32,
@@ -56,21 +57,30 @@ impl At<'_> {
 
 pub fn whole(arguments: &Arguments, files: &Files) -> Checked<Report> {
     call(Call::Step, &STEP, arguments, files, |path, at| {
-        let answer = handle_standard_path(path, at.interface, at.now(), &at.key, at.table, at.ignore_macs);
+        let (now, key) = (at.now(), &at.key);
+        let answer = at
+            .edition
+            .handle_standard_path(path, at.interface, now, key, at.table, at.ignore_macs);
         answers::of_step(answer)
     })
 }
 
 pub fn ingress(arguments: &Arguments, files: &Files) -> Checked<Report> {
     call(Call::Ingress, &INGRESS, arguments, files, |path, at| {
-        let answer = standard_path_ingress(path, at.interface, at.now(), &at.key, at.table, at.ignore_macs);
+        let (now, key) = (at.now(), &at.key);
+        let answer = at
+            .edition
+            .standard_path_ingress(path, at.interface, now, key, at.table, at.ignore_macs);
         answers::of_ingress(answer)
     })
 }
 
 pub fn egress(arguments: &Arguments, files: &Files) -> Checked<Report> {
     call(Call::Egress, &EGRESS, arguments, files, |path, at| {
-        let answer = standard_path_egress(path, at.interface, at.now(), &at.key, at.table, at.ignore_macs);
+        let (now, key) = (at.now(), &at.key);
+        let answer = at
+            .edition
+            .standard_path_egress(path, at.interface, now, key, at.table, at.ignore_macs);
         answers::of_step(answer)
     })
 }
@@ -92,11 +102,13 @@ fn call(
     let mut notes = Vec::new();
     let now = reading(arguments, "--now", &mut notes)?;
     let file = left_file(arguments)?;
+    let edition = edition::of(arguments)?;
 
     let station = named.read(files, spelling(arguments)?, &mut notes)?;
     let before = read_path(arguments, files)?;
     let (ids, states): (Vec<u16>, Vec<u8>) = station.interfaces.into_iter().unzip();
     let at = At {
+        edition,
         interface: interface.unwrap_or(station.arrival),
         now,
         key: station.key,
@@ -107,10 +119,11 @@ fn call(
         ignore_macs: arguments.flag("--ignore-macs"),
     };
     let mut path = before.clone();
-    let answer = library(&mut path, &at).of_call(call, &before, &path);
+    let answer = library(&mut path, &at).of_call(call, edition, &before, &path);
     let mut report = Report::of(form.command, &answer);
     report.line("now", dates::both(at.now));
     report.member("now", Json::number(at.now));
+    edition::tell(edition, &mut report);
     report.member("named_hops", answer.hops_json());
     report.notes = notes;
     report.path_left(&before, &path);
