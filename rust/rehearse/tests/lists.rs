@@ -125,21 +125,22 @@ fn a_line_says_what_to_look_at() {
     );
 }
 
-/// Long lists of sentences are cut, and a plan of 63 stations is listed whole.
+/// Long lists of sentences are cut, and a plan of 64 stations, which a peering path can have, is listed whole.
 #[test]
 fn what_is_seen_is_cut_where_nobody_reads_on() {
     let folder = Folder::with_site();
     let station = |arrival: usize| format!("station\narrival {arrival}\nkey 000102030405060708090a0b0c0d0e0f\n");
-    folder.write("63", (0..63).map(station).collect::<String>());
-    let ran = folder.run(&format!("journey good.path 63 {READINGS}"));
-    assert!(ran.out.contains(", 61, 62\n"), "{}", ran.out);
+    folder.write("64", (0..64).map(station).collect::<String>());
+    let ran = folder.run(&format!("journey good.path 64 {READINGS}"));
+    assert!(ran.out.contains(", 62, 63\n"), "{}", ran.out);
     folder.write("70", (0..70).map(station).collect::<String>());
     let ran = folder.run(&format!("journey good.path 70 {READINGS}"));
-    assert!(ran.out.contains(", 61, 62, and 7 more\n"), "{}", ran.out);
+    assert!(ran.out.contains(", 62, 63, and 6 more\n"), "{}", ran.out);
     folder.write("zeros", (0..40).map(|_| station(0)).collect::<String>());
     let ran = folder.run(&format!("journey good.path zeros {READINGS}"));
     assert_eq!(ran.out.matches(", not the first, arrives by 0").count(), 20);
     assert!(ran.out.contains("                 and 19 more\n"), "{}", ran.out);
+    folder.write("63", (0..63).map(station).collect::<String>());
     let hops = "hop in 1 out 1 lasts 6h alert ingress\n".repeat(63);
     folder.write(
         "alerts",
