@@ -1,10 +1,7 @@
 // The hop MAC for C, which bench/mac.c calls and times.
-use aes_cmac::aes;
-use aes_cmac::cmac;
-use standard_path::mac;
 ghost use mathlib.Core.Path.{_≡_};
 ghost use mathlib.Core.List.{[], _∷_};
-ghost use Rattle.standard_path.specs.Mac.{hopMac};
+ghost use Rattle.hop_mac.specs.Mac.{hopMac};
 
 // One hop MAC, from its key.
 #[no_mangle]
@@ -19,7 +16,7 @@ pub extern "C" fn bench_hop_mac(
 )
     ensures { λ _. ⌜ now (mac .exit) ≡ hopMac «segment_id» timestamp «exp_time» «cons_ingress» «cons_egress» (now (key .entry)) ⌝ }
 {
-    *mac = mac::calculate_hop_mac(
+    *mac = hop_mac::calculate_hop_mac(
         segment_id,
         timestamp,
         exp_time,
@@ -51,7 +48,7 @@ pub extern "C" fn bench_three_hop_macs(
     let table = aes::round_table();
     let round_keys = aes::expand_key(*key);
     let k1 = cmac::subkey_with(&table, round_keys);
-    let a = mac::calculate_hop_mac_with(
+    let a = hop_mac::calculate_hop_mac_with(
         &table,
         round_keys,
         k1,
@@ -61,7 +58,7 @@ pub extern "C" fn bench_three_hop_macs(
         cons_ingress,
         cons_egress,
     );
-    let b = mac::calculate_hop_mac_with(
+    let b = hop_mac::calculate_hop_mac_with(
         &table,
         round_keys,
         k1,
@@ -71,7 +68,7 @@ pub extern "C" fn bench_three_hop_macs(
         cons_ingress,
         cons_egress,
     );
-    let c = mac::calculate_hop_mac_with(
+    let c = hop_mac::calculate_hop_mac_with(
         &table,
         round_keys,
         k1,

@@ -7,38 +7,36 @@ use mathlib.Core.Path.{_≡_, refl}
 use lib.Dec.{eqb}
 use lib.ListN.{replicate}
 use Rattle.aes_sbox.specs.Field.{mul, inverse, affine, substitutionValue, sBox, subByte}
-use Rattle.aes_cmac.specs.Block.{xorBlock}
-use Rattle.aes_cmac.specs.Cipher.{subBytes, shiftRows, mixColumns, round, cipher}
-use Rattle.aes_cmac.specs.KeyExpansion.{xorWord, rotWord, subWord, keyExpansion, roundKeys}
-use Rattle.aes_cmac.specs.Cmac.{shiftLeft, doubled, subkey1, blockAt, lastBlock, chained, macWith, aesCmac}
-use Rattle.standard_path.specs.Mac.{macInput, fullHopMac, hopMac, macBetaStep}
-use Rattle.standard_path.specs.Fields.{setCurrInf, setCurrHf, consDir, segId, timestamp, consEgressAlert, consIngressAlert, expTime}
-use Rattle.standard_path.specs.Fields.{consIngress, consEgress, macField, travelIngress, travelEgress, travelIngressAlert}
-use Rattle.standard_path.specs.Fields.{travelEgressAlert, expiry}
+use Rattle.aes.specs.Block.{xorBlock}
+use Rattle.aes.specs.Cipher.{subBytes, shiftRows, mixColumns, round, cipher}
+use Rattle.aes.specs.KeyExpansion.{xorWord, rotWord, subWord, keyExpansion, roundKeys}
+use Rattle.cmac.specs.Cmac.{shiftLeft, doubled, subkey1, blockAt, lastBlock, chained, macWith, aesCmac}
+use Rattle.hop_mac.specs.Mac.{macInput, fullHopMac, hopMac, macBetaStep}
+use Rattle.standard_path.specs.Meta.{setCurrInf, setCurrHf}
+use Rattle.fields.specs.Fields.{consDir, segId, timestamp, consEgressAlert, consIngressAlert, expTime, consIngress, consEgress, macField, travelIngress, travelEgress, travelIngressAlert, travelEgressAlert, expiry}
 use Rattle.standard_path.specs.Header.{infos, hops, headerSize, infoField, hopField, headerCheck}
-use Rattle.standard_path.specs.Moves.{setSegId, clearIngressAlert}
+use Rattle.moves.specs.Writes.{setSegId, clearIngressAlert}
 use Rattle.standard_path.specs.declared.view.HeaderCheck.{HeaderCheck}
 use Rattle.standard_path.specs.declared.view.HeaderCheck.the-variants.{Complete, MetaTooShort, DataTooShort, TooManyHops}
 use Rattle.segments.specs.Segments.{segments, segmentCount}
-use Rattle.reverse.specs.Reverse.{reverseNumber, setLengths, swapLengths, toggleConsDir, toggleConsDirs, lastFirst}
-use Rattle.reverse.specs.Reverse.{reverseFields, reverseParts, reversed, reverseAsked, reverseAnswer, bytesLeft, reverseBytes}
+use Rattle.reverse.specs.Reverse.{reverseNumber, setLengths, swapLengths, toggleConsDir, toggleConsDirs, lastFirst, reverseFields, reverseParts, reversed, reverseAsked, reverseAnswer, bytesLeft, reverseBytes}
 use Rattle.reverse.specs.declared.Reversal.{Reversal}
 use Rattle.reverse.specs.declared.Reversal.the-variants.{Reversed, Failed}
 use Rattle.interface_table.specs.Table.{idsAscending, statesSound, tableSound, stateOf, linkType, isUp, isAmong, pairAllowed}
-use Rattle.validator.specs.Questions.{firstNo}
-use Rattle.validator.specs.Check.{MacFunction, macNumber, rightMac}
-use Rattle.validator.specs.Answer.{refusalNumber, refusalValues}
-use Rattle.validator.specs.declared.answer.LocalAsRoutingAction.the-variants.{IngressSCMPHandleRequest, EgressSCMPHandleRequest}
-use Rattle.validator.specs.declared.answer.LocalAsRoutingAction.the-variants.{ForwardLocal}
-use Rattle.validator.specs.declared.answer.AsRoutingAction.the-variants.{Local, ForwardNextHop}
-use Rattle.validator.specs.declared.answer.IngressNextAction.{IngressNextAction}
-use Rattle.validator.specs.declared.answer.StepAnswer.{StepAnswer}
-use Rattle.validator.specs.declared.answer.StepAnswer.the-variants.{Action, Refused}
+use Rattle.answers.specs.Questions.{firstNo}
+use Rattle.validator.specs.Check.{MacFunction, macNumber, rightMac, keyMac, atIngress}
+use Rattle.answers.specs.Answer.{refusalNumber, refusalValues}
+use Rattle.answers.specs.declared.LocalAsRoutingAction.the-variants.{IngressSCMPHandleRequest, EgressSCMPHandleRequest, ForwardLocal}
+use Rattle.answers.specs.declared.AsRoutingAction.the-variants.{Local, ForwardNextHop}
+use Rattle.answers.specs.declared.IngressNextAction.{IngressNextAction}
+use Rattle.answers.specs.declared.StepAnswer.{StepAnswer}
+use Rattle.answers.specs.declared.StepAnswer.the-variants.{Action, Refused}
 use Rattle.edition.specs.declared.Edition.the-variants.{First}
-use Rattle.routing.specs.Outcome.{Outcome}
-use Rattle.routing.specs.Ingress.{stepped, ingressMove, ingressAction, ingress}
-use Rattle.routing.specs.Egress.{egressMove, leavingAction, egress}
-use Rattle.routing.specs.Step.{keyMac, atIngress, finished, stepFrom, step}
+use Rattle.answers.specs.Outcome.{Outcome}
+use Rattle.moves.specs.Moves.{stepped, ingressMove, egressMove}
+use Rattle.ingress.specs.Ingress.{ingressAction, ingress}
+use Rattle.egress.specs.Egress.{leavingAction, egress}
+use Rattle.routing.specs.Step.{finished, stepFrom, step}
 
 -- ---- the AS
 

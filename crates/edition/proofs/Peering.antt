@@ -8,14 +8,15 @@ use native.Mathlib.Omega.{arith}
 use borrow.Author.Tests.{eqb-true, eqb-false, ltb-true, not-true}
 use lib.Dec.{eqb, ltb}
 use Rattle.octets.proofs.Bools.{first-of, second-of}
-use Rattle.standard_path.specs.Fields.{seg0Len, seg1Len, seg2Len, peering}
+use Rattle.standard_path.specs.Meta.{seg0Len, seg1Len, seg2Len}
+use Rattle.fields.specs.Fields.{peering}
 use Rattle.standard_path.specs.Header.{infos, infoField}
 use Rattle.standard_path.proofs.Kept.{Kept, infos-kept}
-use Rattle.validator.specs.Questions.{firstNo}
-use Rattle.validator.specs.declared.answer.AdvanceError.the-variants.{MisplacedPeering}
-use Rattle.validator.specs.declared.answer.StandardRoutingError.the-variants.{AdvanceFailed}
-use Rattle.validator.specs.declared.answer.Validation.the-variants.{Valid, Invalid}
-use Rattle.validator.proofs.Asked.{first-yes, both-yes, none-asked}
+use Rattle.answers.specs.Questions.{firstNo}
+use Rattle.answers.specs.declared.AdvanceError.the-variants.{MisplacedPeering}
+use Rattle.answers.specs.declared.StandardRoutingError.the-variants.{AdvanceFailed}
+use Rattle.answers.specs.declared.Validation.the-variants.{Valid, Invalid}
+use Rattle.answers.proofs.Asked.{first-yes, both-yes, none-asked}
 use Rattle.edition.specs.declared.Edition.{Edition}
 use Rattle.edition.specs.declared.Edition.the-variants.{First, Second}
 use Rattle.edition.specs.Edition.{twoSegments, peeringForm, peeringPath, peeringHop, flagged, peeringPlaced, peeringFits, peeringQuestions}

@@ -5,11 +5,12 @@ use Prim.Native.Nat.{ℕ, _+_}
 use mathlib.Core.Bool.{Bool, true, false, not, _&&_, _||_}
 use mathlib.Core.List.{List, [], _∷_}
 use lib.Dec.{eqb, ltb}
-use Rattle.standard_path.specs.Fields.{seg0Len, seg1Len, seg2Len, peering}
+use Rattle.standard_path.specs.Meta.{seg0Len, seg1Len, seg2Len}
+use Rattle.fields.specs.Fields.{peering}
 use Rattle.standard_path.specs.Header.{infos, infoField}
-use Rattle.validator.specs.Questions.{Questions}
-use Rattle.validator.specs.declared.answer.AdvanceError.the-variants.{MisplacedPeering}
-use Rattle.validator.specs.declared.answer.StandardRoutingError.the-variants.{AdvanceFailed}
+use Rattle.answers.specs.Questions.{Questions}
+use Rattle.answers.specs.declared.AdvanceError.the-variants.{MisplacedPeering}
+use Rattle.answers.specs.declared.StandardRoutingError.the-variants.{AdvanceFailed}
 use Rattle.edition.specs.declared.Edition.{Edition}
 use Rattle.edition.specs.declared.Edition.the-variants.{First, Second}
 

@@ -3,7 +3,8 @@ use standard_path::view;
 ghost use mathlib.Core.Path.{_≡_};
 ghost use Prim.Native.Nat.{_+_};
 ghost use lib.Dec.{eqb};
-ghost use Rattle.standard_path.specs.Fields.{seg0Len, peering};
+ghost use Rattle.standard_path.specs.Meta.{seg0Len};
+ghost use Rattle.fields.specs.Fields.{peering};
 ghost use Rattle.standard_path.specs.Header.{infoField};
 ghost use Rattle.edition.specs.Edition.{editionOf, twoSegments, peeringForm, peeringPath, firstPeeringHop, peeringHop};
 ghost use Rattle.edition.specs.Edition.{flagged, peeringPlaced, peeringFits};
@@ -36,7 +37,7 @@ fn has_two_segments(path: &[u8]) -> bool
 fn is_peering(path: &[u8], info: u8) -> bool
     ensures { λ r. ⌜ r ≡ peering (infoField (now (path .entry)) info) ⌝ }
 {
-    view::peering(view::info_field(path, info))
+    fields::peering(view::info_field(path, info))
 }
 
 fn has_peering_form(path: &[u8]) -> bool

@@ -11,19 +11,19 @@ use Rattle.standard_path.specs.declared.view.SegmentIndex.the-variants as segme
 use Rattle.reverse.specs.Reverse.{reverseNumber}
 use Rattle.reverse.specs.declared.Reversal.{Reversal}
 use Rattle.reverse.specs.declared.Reversal.the-variants.{Reversed, Failed}
-use Rattle.validator.specs.Answer.{refusalNumber, refusalValues, fourValues, flag}
-use Rattle.validator.specs.Scmp.{toScmpError, scmpValues}
-use Rattle.validator.specs.declared.answer.StandardRoutingError.{StandardRoutingError}
-use Rattle.validator.specs.declared.answer.LocalAsRoutingAction.{LocalAsRoutingAction}
-use Rattle.validator.specs.declared.answer.LocalAsRoutingAction.the-variants.{IngressSCMPHandleRequest, EgressSCMPHandleRequest, ForwardLocal}
-use Rattle.validator.specs.declared.answer.AsRoutingAction.{AsRoutingAction}
-use Rattle.validator.specs.declared.answer.AsRoutingAction.the-variants.{Local, ForwardNextHop}
-use Rattle.validator.specs.declared.answer.IngressNextAction.{IngressNextAction}
-use Rattle.validator.specs.declared.answer.IngressNextAction.the-variants as ingress
-use Rattle.validator.specs.declared.answer.StepAnswer.{StepAnswer}
-use Rattle.validator.specs.declared.answer.StepAnswer.the-variants.{Action, Refused}
-use Rattle.validator.specs.declared.scmp.ScmpError.{ScmpError}
-use Rattle.validator.specs.declared.scmp.ScmpError.the-variants.{NoMessage}
+use Rattle.answers.specs.Answer.{refusalNumber, refusalValues, fourValues, flag}
+use Rattle.answers.specs.Scmp.{toScmpError, scmpValues}
+use Rattle.answers.specs.declared.StandardRoutingError.{StandardRoutingError}
+use Rattle.answers.specs.declared.LocalAsRoutingAction.{LocalAsRoutingAction}
+use Rattle.answers.specs.declared.LocalAsRoutingAction.the-variants.{IngressSCMPHandleRequest, EgressSCMPHandleRequest, ForwardLocal}
+use Rattle.answers.specs.declared.AsRoutingAction.{AsRoutingAction}
+use Rattle.answers.specs.declared.AsRoutingAction.the-variants.{Local, ForwardNextHop}
+use Rattle.answers.specs.declared.IngressNextAction.{IngressNextAction}
+use Rattle.answers.specs.declared.IngressNextAction.the-variants as ingress
+use Rattle.answers.specs.declared.StepAnswer.{StepAnswer}
+use Rattle.answers.specs.declared.StepAnswer.the-variants.{Action, Refused}
+use Rattle.answers.specs.declared.scmp.ScmpError.{ScmpError}
+use Rattle.answers.specs.declared.scmp.ScmpError.the-variants.{NoMessage}
 use Rattle.journey.specs.Verdict.{journeyNumber}
 use Rattle.journey.specs.declared.answer.Verdict.{Verdict}
 use Rattle.journey.specs.declared.answer.Verdict.the-variants as verdict

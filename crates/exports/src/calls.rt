@@ -2,23 +2,22 @@
 // and overlaps another, is the caller's fault.
 use crate::reply;
 use crate::reply::Reply;
-use aes_cmac::cmac;
 use edition::Edition;
 use journey_check::questions;
 use routing::step;
-use standard_path::mac;
 use standard_path::view;
 ghost use mathlib.Core.Path.{_≡_};
-ghost use Rattle.aes_cmac.specs.Cmac.{aesCmac};
-ghost use Rattle.standard_path.specs.Mac.{hopMac};
+ghost use Rattle.cmac.specs.Cmac.{aesCmac};
+ghost use Rattle.hop_mac.specs.Mac.{hopMac};
 ghost use Rattle.standard_path.specs.Header.{segmentIndex};
 ghost use Rattle.segments.specs.Segments.{expiration};
 ghost use Rattle.reverse.specs.Reverse.{reverseAnswer, reverseBytes};
 ghost use Rattle.edition.specs.declared.Edition.the-variants.{First};
-ghost use Rattle.routing.specs.Ingress.{ingress};
-ghost use Rattle.routing.specs.Egress.{egress};
-ghost use Rattle.routing.specs.Step.{keyMac, atIngress, atEgress, step};
-ghost use Rattle.itinerary.specs.Layout.{narrow};
+ghost use Rattle.ingress.specs.Ingress.{ingress};
+ghost use Rattle.egress.specs.Egress.{egress};
+ghost use Rattle.validator.specs.Check.{keyMac, atIngress, atEgress};
+ghost use Rattle.routing.specs.Step.{step};
+ghost use Rattle.records.specs.Layout.{narrow};
 ghost use Rattle.journey.specs.Verdict.{journeyCheck};
 ghost use Rattle.exports.specs.Reply.{stepReply, ingressReply, reversalReply, expirationReply, segmentReply, journeyReply};
 
@@ -183,7 +182,7 @@ pub extern "C" fn scion_calculate_hop_mac(
 )
     ensures { λ _. ⌜ now (mac .exit) ≡ hopMac «segment_id» timestamp «exp_time» «cons_ingress» «cons_egress» (now (key .entry)) ⌝ }
 {
-    *mac = mac::calculate_hop_mac(
+    *mac = hop_mac::calculate_hop_mac(
         segment_id,
         timestamp,
         exp_time,

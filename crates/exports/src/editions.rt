@@ -6,10 +6,11 @@ use journey_check::questions;
 use routing::step;
 ghost use mathlib.Core.Path.{_≡_};
 ghost use Rattle.edition.specs.Edition.{editionOf};
-ghost use Rattle.routing.specs.Ingress.{ingress};
-ghost use Rattle.routing.specs.Egress.{egress};
-ghost use Rattle.routing.specs.Step.{keyMac, atIngress, atEgress, step};
-ghost use Rattle.itinerary.specs.Layout.{narrow};
+ghost use Rattle.ingress.specs.Ingress.{ingress};
+ghost use Rattle.egress.specs.Egress.{egress};
+ghost use Rattle.validator.specs.Check.{keyMac, atIngress, atEgress};
+ghost use Rattle.routing.specs.Step.{step};
+ghost use Rattle.records.specs.Layout.{narrow};
 ghost use Rattle.journey.specs.Verdict.{journeyCheck};
 ghost use Rattle.exports.specs.Reply.{stepReply, ingressReply, journeyReply};
 

@@ -1,21 +1,21 @@
 // Answers as numbers, for callers that know no enum of Rattle.
+use answers::AsRoutingAction;
+use answers::IngressNextAction;
+use answers::LocalAsRoutingAction;
+use answers::StandardRoutingError;
+use answers::StepAnswer;
+use answers::number;
+use answers::scmp;
+use answers::scmp::ScmpError;
 use journey::answer;
 use journey::answer::Verdict;
 use reverse::Reversal;
 use segments::PathExpiration;
 use standard_path::view::SegmentIndex;
-use validator::answer::AsRoutingAction;
-use validator::answer::IngressNextAction;
-use validator::answer::LocalAsRoutingAction;
-use validator::answer::StandardRoutingError;
-use validator::answer::StepAnswer;
-use validator::number;
-use validator::scmp;
-use validator::scmp::ScmpError;
 ghost use mathlib.Core.Path.{_≡_};
 ghost use mathlib.Core.List.{[], _∷_};
-ghost use Rattle.validator.specs.Answer.{flag};
-ghost use Rattle.validator.specs.declared.scmp.ScmpError.the-variants.{NoMessage};
+ghost use Rattle.answers.specs.Answer.{flag};
+ghost use Rattle.answers.specs.declared.scmp.ScmpError.the-variants.{NoMessage};
 ghost use Rattle.exports.specs.Reply.{reply, refusalReply, localReply, actionReply, stepReply, ingressReply};
 ghost use Rattle.exports.specs.Reply.{reversalReply, expirationReply, segmentReply, journeyReply};
 

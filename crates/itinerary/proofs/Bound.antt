@@ -13,13 +13,11 @@ use lib.ListN.{length, length-map}
 use Rattle.octets.proofs.Bools.{each-of, each-of-3, each-of-4, each-way}
 use Rattle.interface_table.specs.Table.{tableSound}
 use Rattle.interface_table.proofs.Entries.{sound-by-entries}
-use Rattle.itinerary.specs.Layout.{Layout}
-use Rattle.itinerary.specs.Records.{every, recordCount, nextOf, interfaceNumberOf, firstInterfaceOf, firstStation, chain}
-use Rattle.itinerary.specs.Itinerary.{stationRecords, nextSound, isNoStation, interfaceSound, stationSound}
-use Rattle.itinerary.specs.Itinerary.{sizeSound, zerosSound, headSound, soundWithin, stationWithin, stationsWithin}
-use Rattle.itinerary.specs.Itinerary.{tablesSound, arrivalsFit, fitsWithin, itinerarySound, itineraryFits}
-use Rattle.itinerary.proofs.Every.{every-implied, every-both, every-alike, every-same, map-same}
-use Rattle.itinerary.proofs.Walks.{chain-end}
+use Rattle.records.specs.Layout.{Layout}
+use Rattle.records.specs.Records.{every, recordCount, nextOf, interfaceNumberOf, firstInterfaceOf, firstStation, chain}
+use Rattle.itinerary.specs.Itinerary.{stationRecords, nextSound, isNoStation, interfaceSound, stationSound, sizeSound, zerosSound, headSound, soundWithin, stationWithin, stationsWithin, tablesSound, arrivalsFit, fitsWithin, itinerarySound, itineraryFits}
+use Rattle.records.proofs.Every.{every-implied, every-both, every-alike, every-same, map-same}
+use Rattle.records.proofs.Walks.{chain-end}
 use Rattle.itinerary.proofs.Stations.{hasSoundTable, tables-by-records, count-by-records}
 
 table-size : (ids states : List ℕ) → tableSound ids states ≡ true → length ids ≤ 256

@@ -6,12 +6,9 @@ use mathlib.Core.List.{List, [], _∷_, map, _++_}
 use Prim.Native.Nat.{ℕ, zero, suc, _+_, _*_}
 use lib.ListN.{length, set, take}
 use Rattle.interface_table.specs.Table.{idsAscending, statesSound, tableSound}
-use Rattle.itinerary.specs.Layout.{narrow}
-use Rattle.itinerary.specs.Records.{every, recordCount, bytesOf, nextOf, arrivalOf, firstInterfaceOf}
-use Rattle.itinerary.specs.Records.{interfaceNumberOf, interfaceStateOf, chain}
-use Rattle.itinerary.specs.Itinerary.{sizeSound, nextSound, areZero, zerosSound, isNoStation, interfaceSound, stationSound, headSound}
-use Rattle.itinerary.specs.Itinerary.{soundWithin, stationWithin, stationsWithin, tablesSound, arrivalsFit, fitsWithin}
-use Rattle.itinerary.specs.Itinerary.{itinerarySound, itineraryFits}
+use Rattle.records.specs.Layout.{narrow}
+use Rattle.records.specs.Records.{every, recordCount, bytesOf, nextOf, arrivalOf, firstInterfaceOf, interfaceNumberOf, interfaceStateOf, chain}
+use Rattle.itinerary.specs.Itinerary.{sizeSound, nextSound, areZero, zerosSound, isNoStation, interfaceSound, stationSound, headSound, soundWithin, stationWithin, stationsWithin, tablesSound, arrivalsFit, fitsWithin, itinerarySound, itineraryFits}
 
 -- these bytes, and zeros up to n
 abbrev padded : ℕ → List ℕ → List ℕ

@@ -1,5 +1,3 @@
-pub mod Every
-pub mod Walks
 pub mod Stations
 pub mod Bound
 pub mod Merge

@@ -9,11 +9,11 @@ use native.Mathlib.Omega.{arith}
 use borrow.Author.Tests.{ne-eqb, lt-ltb, le-ltb, le-leb, leb-true, ltb-true, ltb-false, eqb-true, eqb-false}
 use lib.Dec.{eqb, leb, ltb}
 use Rattle.octets.proofs.Bools.{each-of, each-of-3, each-way}
-use Rattle.itinerary.specs.Layout.{Layout}
-use Rattle.itinerary.specs.Records.{every, nextOf, firstStation, chain, dropBelow}
+use Rattle.records.specs.Layout.{Layout}
+use Rattle.records.specs.Records.{every, nextOf, firstStation, chain, dropBelow}
 use Rattle.itinerary.specs.Itinerary.{stationRecords, nextSound, zerosSound, isNoStation, interfaceSound, stationSound}
-use Rattle.itinerary.proofs.Every.{every-implied, every-same}
-use Rattle.itinerary.proofs.Walks.{chain-end, chain-out, chain-on}
+use Rattle.records.proofs.Every.{every-implied, every-same}
+use Rattle.records.proofs.Walks.{chain-end, chain-out, chain-on}
 use Rattle.itinerary.proofs.Bound.{next-sound, station-next}
 
 -- ---- a number is sought in a list

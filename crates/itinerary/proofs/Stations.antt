@@ -9,11 +9,11 @@ use borrow.Author.Tests.{eqb-true, eq-eqb, ne-eqb}
 use lib.Dec.{eqb}
 use lib.ListN.{length, getD, length-map}
 use Rattle.interface_table.specs.Table.{tableSound}
-use Rattle.itinerary.specs.Layout.{Layout}
-use Rattle.itinerary.specs.Records.{every, nextOf, arrivalOf, firstStation, chain}
+use Rattle.records.specs.Layout.{Layout}
+use Rattle.records.specs.Records.{every, nextOf, arrivalOf, firstStation, chain}
 use Rattle.itinerary.specs.Itinerary.{Station, stationRecords, stationWithin, stationsWithin, tablesSound, arrivalsFit}
-use Rattle.itinerary.proofs.Every.{every-map}
-use Rattle.itinerary.proofs.Walks.{chain-end, chain-on}
+use Rattle.records.proofs.Every.{every-map}
+use Rattle.records.proofs.Walks.{chain-end, chain-on}
 
 getD-map : {B : Type 0} (f : ℕ → B) (xs : List ℕ) (place : ℕ) (none : B) → place < length xs
     → getD (map f xs) place none ≡ f (getD xs place 0)

@@ -7,9 +7,8 @@ use mathlib.Core.List.{List, [], _∷_, map}
 use lib.Dec.{eqb, leb, ltb}
 use lib.ListN.{length}
 use Rattle.interface_table.specs.Table.{tableSound}
-use Rattle.itinerary.specs.Layout.{Layout}
-use Rattle.itinerary.specs.Records.{every, recordCount, bytesOf, nextOf, arrivalOf, firstInterfaceOf, keyOf}
-use Rattle.itinerary.specs.Records.{interfaceNumberOf, interfaceStateOf, firstStation, chain}
+use Rattle.records.specs.Layout.{Layout}
+use Rattle.records.specs.Records.{every, recordCount, bytesOf, nextOf, arrivalOf, firstInterfaceOf, keyOf, interfaceNumberOf, interfaceStateOf, firstStation, chain}
 
 -- The limits below say how far chains are followed: how many stations, and how many records of each station's table. The code follows
 -- them only so far; those of the whole itinerary are at the end of this file.

@@ -1,23 +1,22 @@
 // Whether an itinerary is sound. Chains are followed only as far as a limit goes, so that the work is bounded whatever the bytes.
 //
 // Questions are joined by `&`: a plan is nearly always sound, and a loop stops at its first bad record anyway.
-use crate::layout::HeadLayout;
-use crate::layout::InterfaceRecordLayout;
-use crate::layout::RecordLayout;
-use crate::layout::StationLayout;
-use crate::record;
+use records::layout::HeadLayout;
+use records::layout::InterfaceRecordLayout;
+use records::layout::RecordLayout;
+use records::layout::StationLayout;
 ghost use mathlib.Core.Path.{_≡_};
 ghost use mathlib.Core.Bool.{true};
 ghost use Prim.Native.Nat.{_<_, _≤_};
-ghost use Rattle.itinerary.specs.Layout.{narrow};
-ghost use Rattle.itinerary.specs.Records.{every, chain, dropBelow};
+ghost use Rattle.records.specs.Layout.{narrow};
+ghost use Rattle.records.specs.Records.{every, chain, dropBelow};
 ghost use Rattle.itinerary.specs.Itinerary.{stationRecords, tableRecords, sizeSound, indexSound, nextSound, areZero};
 ghost use Rattle.itinerary.specs.Itinerary.{zerosSound, interfaceSound, stationSound, headSound, soundWithin};
 
 fn is_size_sound(itinerary: &[u8]) -> bool
     ensures { λ r. ⌜ r ≡ sizeSound narrow (now (itinerary .entry)) ⌝ }
 {
-    let count = record::record_count(itinerary);
+    let count = records::record_count(itinerary);
     (itinerary.len() % RecordLayout::SIZE_BYTES == 0)
         & (1 <= count)
         & (count <= RecordLayout::MAX_RECORDS)
@@ -26,13 +25,13 @@ fn is_size_sound(itinerary: &[u8]) -> bool
 fn is_index_sound(itinerary: &[u8], index: u32) -> bool
     ensures { λ r. ⌜ r ≡ indexSound narrow (now (itinerary .entry)) index ⌝ }
 {
-    (index as usize) < record::record_count(itinerary)
+    (index as usize) < records::record_count(itinerary)
 }
 
 fn is_next_sound(itinerary: &[u8], index: u32) -> bool
     ensures { λ r. ⌜ r ≡ nextSound narrow (now (itinerary .entry)) index ⌝ }
 {
-    let next = record::next(itinerary, index);
+    let next = records::next(itinerary, index);
     (next == 0) | ((index < next) & is_index_sound(itinerary, next))
 }
 
@@ -84,7 +83,7 @@ fn skip_below(itinerary: &[u8], place: StationPlace, index: u32) -> StationPlace
         if index <= station {
             return StationPlace { station, left };
         }
-        station = record::next(itinerary, station);
+        station = records::next(itinerary, station);
         left -= 1;
     }
     StationPlace { station, left }
@@ -102,10 +101,10 @@ fn are_interfaces_sound(
         (tableRecords narrow (now (itinerary .entry)) «table_limit» station) ⌝ }
 {
     let mut place = StationPlace {
-        station: record::next(itinerary, 0),
+        station: records::next(itinerary, 0),
         left: station_limit,
     };
-    let mut index = record::first_interface(itinerary, station);
+    let mut index = records::first_interface(itinerary, station);
     let mut left = table_limit;
     while 0 < left {
         if index == 0 {
@@ -119,7 +118,7 @@ fn are_interfaces_sound(
             return false;
         }
         place = reached;
-        index = record::next(itinerary, index);
+        index = records::next(itinerary, index);
         left -= 1;
     }
     true
@@ -150,7 +149,7 @@ fn is_station_sound(itinerary: &[u8], station_limit: u32, table_limit: u32, inde
 {
     is_next_sound(itinerary, index)
         & are_station_zeros_sound(itinerary, index)
-        & is_index_sound(itinerary, record::first_interface(itinerary, index))
+        & is_index_sound(itinerary, records::first_interface(itinerary, index))
         & are_interfaces_sound(itinerary, station_limit, table_limit, index)
 }
 
@@ -158,7 +157,7 @@ fn are_station_nexts_sound(itinerary: &[u8], station_limit: u32) -> bool
     ensures { λ r. ⌜ r ≡ every (nextSound narrow (now (itinerary .entry)))
         (stationRecords narrow (now (itinerary .entry)) «station_limit») ⌝ }
 {
-    let mut station = record::next(itinerary, 0);
+    let mut station = records::next(itinerary, 0);
     let mut left = station_limit;
     while 0 < left {
         if station == 0 {
@@ -167,7 +166,7 @@ fn are_station_nexts_sound(itinerary: &[u8], station_limit: u32) -> bool
         if !is_next_sound(itinerary, station) {
             return false;
         }
-        station = record::next(itinerary, station);
+        station = records::next(itinerary, station);
         left -= 1;
     }
     true
@@ -180,7 +179,7 @@ fn are_stations_sound(itinerary: &[u8], station_limit: u32, table_limit: u32) ->
     if !are_station_nexts_sound(itinerary, station_limit) {
         return false;
     }
-    let mut station = record::next(itinerary, 0);
+    let mut station = records::next(itinerary, 0);
     let mut left = station_limit;
     while 0 < left {
         if station == 0 {
@@ -189,7 +188,7 @@ fn are_stations_sound(itinerary: &[u8], station_limit: u32, table_limit: u32) ->
         if !is_station_sound(itinerary, station_limit, table_limit, station) {
             return false;
         }
-        station = record::next(itinerary, station);
+        station = records::next(itinerary, station);
         left -= 1;
     }
     true
@@ -201,7 +200,7 @@ fn is_head_sound(itinerary: &[u8]) -> bool
     ensures { λ r. ⌜ r ≡ headSound narrow (now (itinerary .entry)) ⌝ }
 {
     are_zero(itinerary, 0, HeadLayout::ZEROS, HeadLayout::ZEROS_BYTES)
-        & is_index_sound(itinerary, record::next(itinerary, 0))
+        & is_index_sound(itinerary, records::next(itinerary, 0))
 }
 
 pub fn is_sound_within(itinerary: &[u8], station_limit: u32, table_limit: u32) -> bool

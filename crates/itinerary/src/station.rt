@@ -1,5 +1,4 @@
 // An itinerary's stations: do they fit a path, and what does each hold?
-use crate::record;
 use crate::sound;
 use interface_table::Listed;
 ghost use mathlib.Core.Path.{_≡_};
@@ -8,8 +7,8 @@ ghost use mathlib.Core.Bool.{not};
 ghost use lib.Dec.{eqb};
 ghost use lib.ListN.{length, getD};
 ghost use Rattle.interface_table.specs.Table.{tableSound, stateOf};
-ghost use Rattle.itinerary.specs.Layout.{narrow};
-ghost use Rattle.itinerary.specs.Records.{every, recordCount, arrivalOf, chain};
+ghost use Rattle.records.specs.Layout.{narrow};
+ghost use Rattle.records.specs.Records.{every, recordCount, arrivalOf, chain};
 ghost use Rattle.itinerary.specs.Itinerary.{stationRecords, stationWithin, stationsWithin, stationAt};
 ghost use Rattle.itinerary.specs.Itinerary.{tablesSound, arrivalsFit, itineraryFits};
 
@@ -22,22 +21,22 @@ fn is_table_sound(itinerary: &[u8], station: u32) -> bool
     ensures { λ r. ⌜ r ≡ tableSound (stationWithin narrow (now (itinerary .entry)) 257 station .ids)
         (stationWithin narrow (now (itinerary .entry)) 257 station .states) ⌝ }
 {
-    let mut index = record::first_interface(itinerary, station);
+    let mut index = records::first_interface(itinerary, station);
     let mut left = TABLE_LIMIT;
     let mut lowest: u32 = 0;
     while 0 < left {
         if index == 0 {
             return true;
         }
-        let number = record::interface_number(itinerary, index) as u32;
+        let number = records::interface_number(itinerary, index) as u32;
         if number < lowest {
             return false;
         }
-        if 8 <= record::interface_state(itinerary, index) {
+        if 8 <= records::interface_state(itinerary, index) {
             return false;
         }
         lowest = number + 1;
-        index = record::next(itinerary, index);
+        index = records::next(itinerary, index);
         left -= 1;
     }
     false
@@ -46,7 +45,7 @@ fn is_table_sound(itinerary: &[u8], station: u32) -> bool
 fn are_tables_sound(itinerary: &[u8], station_limit: u32) -> bool
     ensures { λ r. ⌜ r ≡ tablesSound (stationsWithin narrow (now (itinerary .entry)) «station_limit» 257) ⌝ }
 {
-    let mut station = record::next(itinerary, 0);
+    let mut station = records::next(itinerary, 0);
     let mut left = station_limit;
     while 0 < left {
         if station == 0 {
@@ -55,7 +54,7 @@ fn are_tables_sound(itinerary: &[u8], station_limit: u32) -> bool
         if !is_table_sound(itinerary, station) {
             return false;
         }
-        station = record::next(itinerary, station);
+        station = records::next(itinerary, station);
         left -= 1;
     }
     true
@@ -64,13 +63,13 @@ fn are_tables_sound(itinerary: &[u8], station_limit: u32) -> bool
 fn station_count(itinerary: &[u8], station_limit: u32) -> u32
     ensures { λ r. ⌜ r ≡ length (stationRecords narrow (now (itinerary .entry)) «station_limit») ⌝ }
 {
-    let mut station = record::next(itinerary, 0);
+    let mut station = records::next(itinerary, 0);
     let mut left = station_limit;
     while 0 < left {
         if station == 0 {
             return station_limit - left;
         }
-        station = record::next(itinerary, station);
+        station = records::next(itinerary, station);
         left -= 1;
     }
     station_limit
@@ -86,10 +85,10 @@ fn later_arrivals_fit(itinerary: &[u8], second: u32, limit: u32) -> bool
         if station == 0 {
             return true;
         }
-        if record::arrival(itinerary, station) == 0 {
+        if records::arrival(itinerary, station) == 0 {
             return false;
         }
-        station = record::next(itinerary, station);
+        station = records::next(itinerary, station);
         left -= 1;
     }
     true
@@ -98,14 +97,14 @@ fn later_arrivals_fit(itinerary: &[u8], second: u32, limit: u32) -> bool
 fn arrivals_fit(itinerary: &[u8], later: u32) -> bool
     ensures { λ r. ⌜ r ≡ arrivalsFit (stationsWithin narrow (now (itinerary .entry)) (later + 1) 257) ⌝ }
 {
-    let first = record::next(itinerary, 0);
+    let first = records::next(itinerary, 0);
     if first == 0 {
         return true;
     }
-    if record::arrival(itinerary, first) != 0 {
+    if records::arrival(itinerary, first) != 0 {
         return false;
     }
-    later_arrivals_fit(itinerary, record::next(itinerary, first), later)
+    later_arrivals_fit(itinerary, records::next(itinerary, first), later)
 }
 
 // Question 23 but for the clock readings: sound, tables too, as many stations as wanted, and their arrivals.
@@ -126,8 +125,8 @@ pub fn fits(itinerary: &[u8], wanted: u8) -> bool
 pub fn station_record(itinerary: &[u8], place: u8) -> u32
     ensures { λ r. ⌜ r ≡ getD (stationRecords narrow (now (itinerary .entry)) (recordCount narrow (now (itinerary .entry)))) place 0 ⌝ }
 {
-    let mut station = record::next(itinerary, 0);
-    let mut left = record::record_count(itinerary);
+    let mut station = records::next(itinerary, 0);
+    let mut left = records::record_count(itinerary);
     let mut passed: u8 = 0;
     while 0 < left {
         if station == 0 {
@@ -136,7 +135,7 @@ pub fn station_record(itinerary: &[u8], place: u8) -> u32
         if passed == place {
             return station;
         }
-        station = record::next(itinerary, station);
+        station = records::next(itinerary, station);
         passed += 1;
         left -= 1;
     }
@@ -148,16 +147,16 @@ pub fn lookup(itinerary: &[u8], station: u32, number: u16) -> Listed
     ensures { λ r. ⌜ r ≡ stateOf (stationAt narrow (now (itinerary .entry)) station .ids)
         (stationAt narrow (now (itinerary .entry)) station .states) number ⌝ }
 {
-    let mut index = record::first_interface(itinerary, station);
-    let mut left = record::record_count(itinerary);
+    let mut index = records::first_interface(itinerary, station);
+    let mut left = records::record_count(itinerary);
     while 0 < left {
         if index == 0 {
             return Listed::Nothing;
         }
-        if record::interface_number(itinerary, index) == number {
-            return Listed::State(record::interface_state(itinerary, index));
+        if records::interface_number(itinerary, index) == number {
+            return Listed::State(records::interface_state(itinerary, index));
         }
-        index = record::next(itinerary, index);
+        index = records::next(itinerary, index);
         left -= 1;
     }
     Listed::Nothing

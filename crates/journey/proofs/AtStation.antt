@@ -12,18 +12,17 @@ use Rattle.standard_path.specs.Header.{hops, infoField}
 use Rattle.interface_table.specs.Table.{stateOf}
 use Rattle.interface_table.specs.declared.Listed.{Listed}
 use Rattle.interface_table.specs.declared.Listed.the-variants.{State, Nothing}
-use Rattle.validator.specs.Check.{isListed}
-use Rattle.validator.specs.declared.answer.StandardRoutingError.{StandardRoutingError}
-use Rattle.validator.specs.declared.answer.LocalAsRoutingAction.the-variants.{ForwardLocal}
-use Rattle.validator.specs.declared.answer.AsRoutingAction.the-variants.{Local, ForwardNextHop}
-use Rattle.validator.specs.declared.answer.StepAnswer.{StepAnswer}
-use Rattle.validator.specs.declared.answer.StepAnswer.the-variants.{Action, Refused}
+use Rattle.validator.specs.Check.{isListed, isUpListed}
+use Rattle.answers.specs.declared.StandardRoutingError.{StandardRoutingError}
+use Rattle.answers.specs.declared.LocalAsRoutingAction.the-variants.{ForwardLocal}
+use Rattle.answers.specs.declared.AsRoutingAction.the-variants.{Local, ForwardNextHop}
+use Rattle.answers.specs.declared.StepAnswer.{StepAnswer}
+use Rattle.answers.specs.declared.StepAnswer.the-variants.{Action, Refused}
 use Rattle.edition.specs.declared.Edition.{Edition}
 use Rattle.edition.specs.Edition.{peeringPath}
-use Rattle.routing.specs.Outcome.{Outcome}
+use Rattle.answers.specs.Outcome.{Outcome}
 use Rattle.routing.proofs.Inside.{insideQuestions}
-use Rattle.routing.specs.Egress.{egressMove}
-use Rattle.routing.specs.Step.{isUpListed}
+use Rattle.moves.specs.Moves.{egressMove}
 use Rattle.itinerary.specs.Itinerary.{Station}
 use Rattle.journey.specs.Check.{startOf, countOf, hopOf, leavesBy}
 use Rattle.journey.specs.Journey.{stepAt, goesOn, delivers}

@@ -10,21 +10,21 @@ use native.Mathlib.Omega.{arith}
 use lib.ListN.{length, getD, replicate}
 use Rattle.octets.proofs.Bools.{first-of, second-of}
 use Rattle.standard_path.specs.Header.{infos, hops}
-use Rattle.validator.proofs.Asked.{goes-on}
+use Rattle.answers.proofs.Asked.{goes-on}
 use Rattle.standard_path.proofs.Kept.{kept-self}
 use Rattle.interface_table.specs.Table.{tableSound}
-use Rattle.validator.specs.Answer.{refusalNumber}
-use Rattle.validator.specs.Questions.{Questions, firstNo}
-use Rattle.validator.specs.declared.answer.StepAnswer.{StepAnswer}
-use Rattle.validator.specs.declared.answer.StepAnswer.the-variants.{Refused as Stopped}
-use Rattle.routing.specs.Outcome.{Outcome, asks}
-use Rattle.routing.specs.Step.{keyMac}
-use Rattle.routing.proofs.Numbers.{numbers}
-use Rattle.routing.proofs.Whole.{step-asks}
+use Rattle.answers.specs.Answer.{refusalNumber}
+use Rattle.answers.specs.Questions.{Questions, firstNo}
+use Rattle.answers.specs.declared.StepAnswer.{StepAnswer}
+use Rattle.answers.specs.declared.StepAnswer.the-variants.{Refused as Stopped}
+use Rattle.answers.specs.Outcome.{Outcome, asks}
+use Rattle.validator.specs.Check.{keyMac}
+use Rattle.routing_laws.proofs.Numbers.{numbers}
+use Rattle.routing_laws.proofs.Whole.{step-asks}
 use Rattle.edition.specs.declared.Edition.{Edition}
 use Rattle.edition.specs.declared.Edition.the-variants.{First, Second}
 use Rattle.edition.specs.Edition.{peeringPath, peeringFits, peeringQuestions}
-use Rattle.itinerary.specs.Layout.{Layout}
+use Rattle.records.specs.Layout.{Layout}
 use Rattle.itinerary.specs.Itinerary.{Station, stations}
 use Rattle.journey.specs.declared.answer.Verdict.the-variants.{Passed}
 use Rattle.journey.specs.Check.{noStation}

@@ -8,14 +8,14 @@ use Prim.Native.Nat.{ℕ, suc, _+_, _≤_, _<_}
 use native.Mathlib.Omega.{arith}
 use lib.ListN.{length, getD, replicate, length-replicate, getD-replicate}
 use Rattle.octets.proofs.Bools.{first-of}
-use Rattle.standard_path.specs.Mac.{macChainingBeta}
-use Rattle.standard_path.specs.Fields.{consDir, segId}
+use Rattle.hop_mac.specs.Mac.{macChainingBeta}
+use Rattle.fields.specs.Fields.{consDir, segId}
 use Rattle.standard_path.specs.Header.{infoField}
 use Rattle.standard_path.proofs.Kept.{kept-self}
 use Rattle.interface_table.specs.Table.{tableSound}
-use Rattle.routing.proofs.Touched.{same-info}
+use Rattle.moves.proofs.Touched.{same-info}
 use Rattle.edition.specs.declared.Edition.{Edition}
-use Rattle.itinerary.specs.Layout.{Layout}
+use Rattle.records.specs.Layout.{Layout}
 use Rattle.itinerary.specs.Itinerary.{Station, stations}
 use Rattle.journey.specs.declared.answer.Verdict.the-variants.{Passed, NotPassed}
 use Rattle.journey.specs.Check.{noStation, chainedSegId, macsFrom, passes}

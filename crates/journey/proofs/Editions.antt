@@ -7,14 +7,14 @@ use mathlib.Core.List.{List, [], _∷_}
 use Prim.Native.Nat.{ℕ, suc, _+_, _-_}
 use lib.Dec.{eqb}
 use lib.ListN.{getD}
-use Rattle.standard_path.specs.Fields.{seg0Len}
+use Rattle.standard_path.specs.Meta.{seg0Len}
 use Rattle.standard_path.specs.Header.{infos, infoField}
 use Rattle.edition.specs.declared.Edition.the-variants.{First, Second}
 use Rattle.edition.proofs.Peering.{Plain, plain-kept}
-use Rattle.routing.specs.Step.{keyMac}
+use Rattle.validator.specs.Check.{keyMac}
 use Rattle.routing.proofs.Moved.{step-holds}
-use Rattle.routing.proofs.Editions.{step-agrees}
-use Rattle.itinerary.specs.Layout.{Layout}
+use Rattle.routing_laws.proofs.Editions.{step-agrees}
+use Rattle.records.specs.Layout.{Layout}
 use Rattle.itinerary.specs.Itinerary.{Station}
 use Rattle.journey.specs.Check.{noStation, startOf, countOf, hopOf, segmentFits, segmentPasses, jointPasses, passes}
 use Rattle.journey.specs.Verdict.{journeyCheck}

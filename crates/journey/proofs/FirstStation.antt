@@ -9,22 +9,22 @@ use native.Mathlib.Omega.{arith}
 use borrow.Author.Tests.{eqb-true, eqb-false, not-true, ltb-true, lt-ltb}
 use lib.Dec.{eqb, ltb}
 use Rattle.octets.proofs.Bools.{first-of, second-of, other-of}
-use Rattle.standard_path.specs.Fields.{currInf, currHf, seg0Len, seg1Len}
+use Rattle.standard_path.specs.Meta.{currInf, currHf, seg0Len, seg1Len}
 use Rattle.standard_path.specs.Header.{infos, hops, segmentOf}
-use Rattle.validator.specs.Questions.{Questions, firstNo}
-use Rattle.validator.specs.declared.answer.Validation.the-variants.{Valid}
-use Rattle.validator.specs.declared.answer.StandardRoutingError.the-variants.{AdvanceFailed}
-use Rattle.validator.specs.declared.answer.AdvanceError.the-variants.{HopOutOfBounds, SingleHopSegment, InvalidSegmentIndex, InfoOutOfBounds}
-use Rattle.validator.proofs.Asked.{both-yes, none-asked}
-use Rattle.validator.specs.declared.answer.StandardRoutingError.{StandardRoutingError}
-use Rattle.validator.specs.declared.answer.StepAnswer.{StepAnswer}
-use Rattle.validator.specs.declared.answer.StepAnswer.the-variants.{Refused as Stopped}
-use Rattle.routing.specs.Outcome.{Outcome}
+use Rattle.answers.specs.Questions.{Questions, firstNo}
+use Rattle.answers.specs.declared.Validation.the-variants.{Valid}
+use Rattle.answers.specs.declared.StandardRoutingError.the-variants.{AdvanceFailed}
+use Rattle.answers.specs.declared.AdvanceError.the-variants.{HopOutOfBounds, SingleHopSegment, InvalidSegmentIndex, InfoOutOfBounds}
+use Rattle.answers.proofs.Asked.{both-yes, none-asked}
+use Rattle.answers.specs.declared.StandardRoutingError.{StandardRoutingError}
+use Rattle.answers.specs.declared.StepAnswer.{StepAnswer}
+use Rattle.answers.specs.declared.StepAnswer.the-variants.{Refused as Stopped}
+use Rattle.answers.specs.Outcome.{Outcome}
 use Rattle.edition.specs.declared.Edition.{Edition}
 use Rattle.edition.specs.Edition.{peeringPath, peeringQuestions}
-use Rattle.routing.specs.Place.{before, ingressPlace, segment, ends, isPeeringHop, alone, changes}
-use Rattle.routing.specs.Step.{keyMac}
-use Rattle.routing.proofs.Whole.{step-asks}
+use Rattle.place.specs.Place.{before, ingressPlace, segment, ends, isPeeringHop, alone, changes}
+use Rattle.validator.specs.Check.{keyMac}
+use Rattle.routing_laws.proofs.Whole.{step-asks}
 use Rattle.itinerary.specs.Itinerary.{Station}
 use Rattle.journey.specs.Check.{countOf}
 use Rattle.journey.specs.Journey.{stepAt}

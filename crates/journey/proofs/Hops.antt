@@ -7,16 +7,16 @@ use Prim.Native.Nat.{ℕ, zero, suc, _+_, _≤_, _<_}
 use native.Mathlib.Omega.{arith}
 use borrow.Author.Tests.{eqb-true, eqb-false, eq-eqb, ne-eqb, ltb-true, ltb-false, lt-ltb, le-ltb, le-leb, lt-leb, leb-true, leb-false}
 use lib.Dec.{eqb, ltb, leb}
-use Rattle.standard_path.specs.Fields.{currInf, currHf, seg0Len, seg1Len, seg2Len}
+use Rattle.standard_path.specs.Meta.{currInf, currHf, seg0Len, seg1Len, seg2Len}
 use Rattle.standard_path.specs.Header.{infos, hops, segmentOf, segmentEnd}
 use Rattle.standard_path.proofs.Kept.{infos-kept, hops-kept}
-use Rattle.validator.specs.Questions.{firstNo}
-use Rattle.validator.specs.declared.answer.Validation.the-variants.{Valid}
-use Rattle.validator.proofs.Asked.{both-yes, none-asked}
+use Rattle.answers.specs.Questions.{firstNo}
+use Rattle.answers.specs.declared.Validation.the-variants.{Valid}
+use Rattle.answers.proofs.Asked.{both-yes, none-asked}
 use Rattle.edition.specs.declared.Edition.{Edition}
 use Rattle.edition.specs.Edition.{peeringPath, firstPeeringHop, peeringQuestions}
 use Rattle.edition.proofs.Peering.{Peering, peering-lengths}
-use Rattle.routing.specs.Place.{segment, starts, ends, isFinal, isPeeringHop, crosses, changes, ingressPlace}
+use Rattle.place.specs.Place.{segment, starts, ends, isFinal, isPeeringHop, crosses, changes, ingressPlace}
 use Rattle.routing.proofs.Inside.{insideQuestions}
 use Rattle.journey.specs.Check.{startOf, countOf, peeringHopOf}
 use Rattle.journey.proofs.Yes.{isValid, yes, valid-yes}

@@ -9,10 +9,10 @@ use borrow.Author.Tests.{eqb-true, eq-eqb, ne-eqb, le-leb, leb-true, not-true}
 use lib.Dec.{eqb, leb}
 use lib.ListN.{length}
 use Rattle.octets.proofs.Bools.{both, each-of, each-of-4, either, other-of}
-use Rattle.standard_path.specs.Fields.{seg0Len, seg1Len, seg2Len}
+use Rattle.standard_path.specs.Meta.{seg0Len, seg1Len, seg2Len}
 use Rattle.standard_path.specs.Header.{infos, hops}
-use Rattle.validator.specs.Questions.{firstNo}
-use Rattle.validator.specs.declared.answer.Validation.the-variants.{Valid}
+use Rattle.answers.specs.Questions.{firstNo}
+use Rattle.answers.specs.declared.Validation.the-variants.{Valid}
 use Rattle.edition.specs.declared.Edition.{Edition}
 use Rattle.edition.specs.Edition.{peeringPath, peeringQuestions}
 use Rattle.itinerary.specs.Itinerary.{Station}

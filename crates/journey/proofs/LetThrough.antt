@@ -9,14 +9,15 @@ use borrow.Author.Tests.{eqb-true, eqb-false, leb-true, not-true}
 use lib.Dec.{eqb, leb}
 use lib.ListN.{length, getD}
 use Rattle.octets.proofs.Bools.{each-of-4, first-of, second-of}
-use Rattle.standard_path.specs.Fields.{currInf, currHf, consIngressAlert, consEgressAlert}
+use Rattle.standard_path.specs.Meta.{currInf, currHf}
+use Rattle.fields.specs.Fields.{consIngressAlert, consEgressAlert}
 use Rattle.standard_path.specs.Header.{infos, hops, headerSize, hopField}
 use Rattle.interface_table.specs.Table.{tableSound}
 use Rattle.edition.specs.declared.Edition.{Edition}
 use Rattle.edition.specs.Edition.{peeringPath}
-use Rattle.itinerary.specs.Layout.{Layout}
+use Rattle.records.specs.Layout.{Layout}
 use Rattle.itinerary.specs.Itinerary.{Station, stations, itinerarySound, arrivalsFit, tablesSound, itineraryFits, fitsWithin}
-use Rattle.itinerary.proofs.Every.{every-at}
+use Rattle.records.proofs.Every.{every-at}
 use Rattle.journey.specs.declared.answer.Verdict.{Verdict}
 use Rattle.journey.specs.Check.{noStation}
 use Rattle.journey.specs.Verdict.{stationCount, quiet, Question, questions, firstNo, letThrough}

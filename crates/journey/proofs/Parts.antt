@@ -10,13 +10,12 @@ use borrow.Author.Tests.{eqb-false, eq-eqb, ne-eqb, le-leb, lt-leb, leb-true, le
 use lib.Dec.{eqb, leb}
 use lib.ListN.{length, getD}
 use Rattle.octets.proofs.Bools.{both, each-of-3, each-of-4, first-of, second-of, either, other-of}
-use Rattle.standard_path.specs.Fields.{consDir, timestamp, expTime, travelIngress, travelEgress, expiry}
+use Rattle.fields.specs.Fields.{consDir, timestamp, expTime, travelIngress, travelEgress, expiry}
 use Rattle.standard_path.specs.Header.{infos, hops, infoField}
 use Rattle.interface_table.specs.Table.{stateOf, pairAllowed}
 use Rattle.interface_table.specs.declared.Listed.{Listed}
 use Rattle.interface_table.specs.declared.Listed.the-variants.{State, Nothing}
-use Rattle.validator.specs.Check.{isListed, linkOf}
-use Rattle.routing.specs.Step.{isUpListed}
+use Rattle.validator.specs.Check.{isListed, linkOf, isUpListed}
 use Rattle.edition.specs.declared.Edition.{Edition}
 use Rattle.edition.specs.Edition.{peeringPath, peeringFits}
 use Rattle.itinerary.specs.Itinerary.{Station}

@@ -9,15 +9,15 @@ use borrow.Author.Tests.{eqb-false}
 use lib.Dec.{eqb}
 use lib.ListN.{getD, set}
 use lib.Seq.{set-getD}
-use Rattle.standard_path.specs.Fields.{currInf, currHf, consDir, consIngressAlert, consEgressAlert, travelIngressAlert, travelEgressAlert, setCurrHf, setCurrInf}
+use Rattle.standard_path.specs.Meta.{currInf, currHf, setCurrHf, setCurrInf}
+use Rattle.fields.specs.Fields.{consDir, consIngressAlert, consEgressAlert, travelIngressAlert, travelEgressAlert}
 use Rattle.standard_path.specs.Header.{infos, hopField}
-use Rattle.standard_path.specs.Moves.{flagsAt, withoutIngress, withoutEgress, clearIngressAlert}
+use Rattle.moves.specs.Writes.{flagsAt, withoutIngress, withoutEgress, clearIngressAlert}
 use Rattle.standard_path.proofs.Kept.{hop-byte}
 use Rattle.edition.specs.declared.Edition.{Edition}
-use Rattle.routing.specs.Place.{isPeeringHop, crosses}
-use Rattle.routing.specs.Ingress.{hop, info, stepped, stepsAtIngress, ingressFields}
-use Rattle.routing.specs.Egress.{stepsAtEgress, egressMove}
-use Rattle.routing.proofs.Touched.{stepped-hop}
+use Rattle.place.specs.Place.{isPeeringHop, crosses, hop, info}
+use Rattle.moves.specs.Moves.{stepped, stepsAtIngress, ingressFields, stepsAtEgress, egressMove}
+use Rattle.moves.proofs.Touched.{stepped-hop}
 
 pub record Quiet (hop : List ℕ) : Type 0 where
   pub into : consIngressAlert hop ≡ false

@@ -7,22 +7,23 @@ use Prim.Native.Nat.{ℕ, suc, _≤_}
 use native.Mathlib.Omega.{arith}
 use lib.Dec.{eqb}
 use Rattle.octets.proofs.Bools.{first-of}
-use Rattle.standard_path.specs.Fields.{consDir, travelEgress, travelEgressAlert}
-use Rattle.validator.specs.Questions.{firstNo}
-use Rattle.validator.specs.declared.answer.Validation.{Validation}
-use Rattle.validator.specs.declared.answer.Validation.the-variants.{Valid, Invalid}
-use Rattle.validator.specs.declared.answer.LocalAsRoutingAction.the-variants.{IngressSCMPHandleRequest, EgressSCMPHandleRequest, ForwardLocal}
-use Rattle.validator.specs.declared.answer.AsRoutingAction.the-variants.{Local, ForwardNextHop}
-use Rattle.validator.specs.declared.answer.StepAnswer.{StepAnswer}
-use Rattle.validator.specs.declared.answer.StepAnswer.the-variants.{Action, Refused}
+use Rattle.fields.specs.Fields.{consDir, travelEgress, travelEgressAlert}
+use Rattle.answers.specs.Questions.{firstNo}
+use Rattle.answers.specs.declared.Validation.{Validation}
+use Rattle.answers.specs.declared.Validation.the-variants.{Valid, Invalid}
+use Rattle.answers.specs.declared.LocalAsRoutingAction.the-variants.{IngressSCMPHandleRequest, EgressSCMPHandleRequest, ForwardLocal}
+use Rattle.answers.specs.declared.AsRoutingAction.the-variants.{Local, ForwardNextHop}
+use Rattle.answers.specs.declared.StepAnswer.{StepAnswer}
+use Rattle.answers.specs.declared.StepAnswer.the-variants.{Action, Refused}
 use Rattle.edition.specs.declared.Edition.{Edition}
-use Rattle.routing.specs.Outcome.{Outcome, asks}
-use Rattle.routing.specs.Place.{before, changes, isFinal, ingressPlace}
-use Rattle.routing.specs.Ingress.{hop, info, ingressMove, alertsAtIngress}
-use Rattle.routing.specs.Egress.{leavingAction, egressAction, egressMove}
-use Rattle.routing.specs.Step.{keyMac}
+use Rattle.answers.specs.Outcome.{Outcome, asks}
+use Rattle.place.specs.Place.{before, changes, isFinal, ingressPlace, hop, info}
+use Rattle.moves.specs.Moves.{ingressMove, egressMove}
+use Rattle.ingress.specs.Ingress.{alertsAtIngress}
+use Rattle.egress.specs.Egress.{leavingAction, egressAction}
+use Rattle.validator.specs.Check.{keyMac}
 use Rattle.routing.proofs.Inside.{insideQuestions}
-use Rattle.routing.proofs.Whole.{step-asks, checks, leavingChecks}
+use Rattle.routing_laws.proofs.Whole.{step-asks, checks, leavingChecks}
 use Rattle.itinerary.specs.Itinerary.{Station}
 use Rattle.journey.specs.Journey.{stepAt, endedAt, goesOn, someLeft, orEnds, journey}
 

@@ -8,21 +8,20 @@ use native.Mathlib.Omega.{arith}
 use borrow.Author.Tests.{eq-eqb, ne-eqb}
 use lib.Dec.{eqb}
 use lib.ListN.{length}
-use Rattle.standard_path.specs.Layout.{infoOffset}
-use Rattle.standard_path.specs.Mac.{macBetaStep, macChainingBeta}
-use Rattle.standard_path.specs.Fields.{currInf, currHf, setCurrInf, setCurrHf, byDirection, consDir, segId, macField}
+use Rattle.fields.specs.Layout.{infoOffset}
+use Rattle.hop_mac.specs.Mac.{macBetaStep, macChainingBeta}
+use Rattle.standard_path.specs.Meta.{currInf, currHf, setCurrInf, setCurrHf}
+use Rattle.fields.specs.Fields.{byDirection, consDir, segId, macField}
 use Rattle.standard_path.specs.Header.{infos, headerSize, infoField, hopField}
-use Rattle.standard_path.proofs.HopMac.{chaining-append}
+use Rattle.hop_mac.proofs.HopMac.{chaining-append}
 use Rattle.standard_path.proofs.Kept.{Kept, kept-trans, infos-kept}
-use Rattle.standard_path.proofs.IndexSet.{set-hf-kept, set-hf-hop, set-hf-info, set-inf-kept, set-inf-hop, set-inf-info}
-use Rattle.standard_path.proofs.IndexSet.{hf-after-hf, inf-after-hf, hf-after-inf, inf-after-inf}
+use Rattle.standard_path.proofs.IndexSet.{set-hf-kept, set-hf-hop, set-hf-info, set-inf-kept, set-inf-hop, set-inf-info, hf-after-hf, inf-after-hf, hf-after-inf, inf-after-inf}
 use Rattle.edition.specs.declared.Edition.{Edition}
 use Rattle.edition.specs.Edition.{peeringPath, firstPeeringHop, peeringQuestions}
-use Rattle.routing.specs.Place.{isPeeringHop, crosses}
-use Rattle.routing.specs.Ingress.{hop, info, stepped, ingressFields}
-use Rattle.routing.specs.Egress.{egressMove}
+use Rattle.place.specs.Place.{isPeeringHop, crosses, hop, info}
+use Rattle.moves.specs.Moves.{stepped, ingressFields, egressMove}
 use Rattle.edition.proofs.Peering.{peering-path-kept, questions-kept, peering-hop-kept}
-use Rattle.routing.proofs.Touched.{SameInfo, stepped-kept, stepped-inf, stepped-hf, stepped-hop, stepped-info, stepped-info-other, stepped-seg-id}
+use Rattle.moves.proofs.Touched.{SameInfo, stepped-kept, stepped-inf, stepped-hf, stepped-hop, stepped-info, stepped-info-other, stepped-seg-id}
 use Rattle.journey.specs.Check.{startOf, hopOf, peeringHopOf, macsFrom, chainedSegId}
 use Rattle.journey.proofs.Quiet.{Quiet, quiet-fields, quiet-egress-move}
 

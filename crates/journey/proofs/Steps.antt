@@ -7,30 +7,32 @@ use Prim.Native.Nat.{ℕ, zero, suc, _+_, _≤_, _<_}
 use native.Mathlib.Omega.{arith}
 use borrow.Author.Tests.{le-leb}
 use lib.ListN.{length}
-use Rattle.standard_path.specs.Mac.{macChainingBeta}
-use Rattle.standard_path.specs.Fields.{currInf, currHf, setCurrInf, setCurrHf, consDir, segId, timestamp, travelIngress, travelEgress}
+use Rattle.hop_mac.specs.Mac.{macChainingBeta}
+use Rattle.standard_path.specs.Meta.{currInf, currHf, setCurrInf, setCurrHf}
+use Rattle.fields.specs.Fields.{consDir, segId, timestamp, travelIngress, travelEgress}
 use Rattle.standard_path.specs.Header.{infos, hops, headerSize, infoField, hopField}
 use Rattle.standard_path.proofs.Kept.{Kept, hops-kept, header-size-kept}
 use Rattle.interface_table.specs.Table.{tableSound, stateOf}
-use Rattle.validator.specs.Questions.{Questions, firstNo}
-use Rattle.validator.specs.Check.{hopQuestions, linkQuestions}
-use Rattle.validator.specs.declared.answer.StandardRoutingError.{StandardRoutingError}
-use Rattle.validator.specs.declared.answer.Validation.the-variants.{Valid}
-use Rattle.validator.specs.declared.answer.LocalAsRoutingAction.the-variants.{ForwardLocal}
-use Rattle.validator.specs.declared.answer.AsRoutingAction.the-variants.{Local, ForwardNextHop}
-use Rattle.validator.specs.declared.answer.StepAnswer.{StepAnswer}
-use Rattle.validator.specs.declared.answer.StepAnswer.the-variants.{Action, Refused}
-use Rattle.validator.proofs.Asked.{both-yes, none-asked}
-use Rattle.routing.specs.Outcome.{Outcome, asks}
+use Rattle.answers.specs.Questions.{Questions, firstNo}
+use Rattle.validator.specs.Check.{hopQuestions, linkQuestions, keyMac, atIngress}
+use Rattle.answers.specs.declared.StandardRoutingError.{StandardRoutingError}
+use Rattle.answers.specs.declared.Validation.the-variants.{Valid}
+use Rattle.answers.specs.declared.LocalAsRoutingAction.the-variants.{ForwardLocal}
+use Rattle.answers.specs.declared.AsRoutingAction.the-variants.{Local, ForwardNextHop}
+use Rattle.answers.specs.declared.StepAnswer.{StepAnswer}
+use Rattle.answers.specs.declared.StepAnswer.the-variants.{Action, Refused}
+use Rattle.answers.proofs.Asked.{both-yes, none-asked}
+use Rattle.answers.specs.Outcome.{Outcome, asks}
 use Rattle.edition.specs.declared.Edition.{Edition}
 use Rattle.edition.specs.Edition.{peeringPath}
-use Rattle.routing.specs.Place.{before}
-use Rattle.routing.specs.Ingress.{hop, info, nextHop, nextInfo, ingressSegId, ingressFields, ingressMove, alertsAtIngress, ingressQuestions}
-use Rattle.routing.specs.Egress.{leavingAction, egressAction, egressMove}
-use Rattle.routing.specs.Step.{keyMac, atIngress, leavingQuestions}
-use Rattle.routing.proofs.Touched.{ingress-fields-moved}
+use Rattle.place.specs.Place.{before, hop, info, nextHop, nextInfo}
+use Rattle.moves.specs.Moves.{ingressSegId, ingressFields, ingressMove, egressMove}
+use Rattle.ingress.specs.Ingress.{alertsAtIngress, ingressQuestions}
+use Rattle.egress.specs.Egress.{leavingAction, egressAction}
+use Rattle.routing.specs.Step.{leavingQuestions}
+use Rattle.moves.proofs.Touched.{ingress-fields-moved}
 use Rattle.routing.proofs.Inside.{insideQuestions}
-use Rattle.routing.proofs.Whole.{step-asks}
+use Rattle.routing_laws.proofs.Whole.{step-asks}
 use Rattle.itinerary.specs.Itinerary.{Station}
 use Rattle.journey.specs.Check.{startOf, countOf, hopOf, chainedSegId, macsFrom}
 use Rattle.journey.specs.Journey.{stepAt}

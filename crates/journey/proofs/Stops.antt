@@ -10,19 +10,19 @@ use lib.Dec.{eqb}
 use lib.ListN.{length}
 use Rattle.octets.proofs.Bools.{first-of, second-of}
 use Rattle.standard_path.specs.Header.{infos, hops}
-use Rattle.validator.specs.Answer.{refusalNumber}
-use Rattle.validator.specs.Questions.{Questions, firstNo}
-use Rattle.validator.specs.declared.answer.StandardRoutingError.{StandardRoutingError}
-use Rattle.validator.specs.declared.answer.Validation.{Validation}
-use Rattle.validator.specs.declared.answer.Validation.the-variants.{Valid, Invalid}
-use Rattle.validator.specs.declared.answer.StepAnswer.{StepAnswer}
-use Rattle.validator.specs.declared.answer.StepAnswer.the-variants.{Action, Refused}
+use Rattle.answers.specs.Answer.{refusalNumber}
+use Rattle.answers.specs.Questions.{Questions, firstNo}
+use Rattle.answers.specs.declared.StandardRoutingError.{StandardRoutingError}
+use Rattle.answers.specs.declared.Validation.{Validation}
+use Rattle.answers.specs.declared.Validation.the-variants.{Valid, Invalid}
+use Rattle.answers.specs.declared.StepAnswer.{StepAnswer}
+use Rattle.answers.specs.declared.StepAnswer.the-variants.{Action, Refused}
 use Rattle.edition.specs.declared.Edition.{Edition}
 use Rattle.edition.specs.declared.Edition.the-variants.{First, Second}
 use Rattle.edition.specs.Edition.{peeringPath}
-use Rattle.routing.specs.Outcome.{Outcome, asks}
+use Rattle.answers.specs.Outcome.{Outcome, asks}
 use Rattle.routing.proofs.Inside.{insideQuestions}
-use Rattle.routing.proofs.Numbers.{numbers}
+use Rattle.routing_laws.proofs.Numbers.{numbers}
 use Rattle.itinerary.specs.Itinerary.{Station}
 use Rattle.journey.specs.Check.{startOf, countOf}
 use Rattle.journey.specs.Journey.{stepAt, Ended, nowhere, endedAt, goesOn, delivers, journey, endedWell}

@@ -5,13 +5,13 @@ use mathlib.Core.Bool.{Bool, true, false, _&&_, and-assoc, false≢true}
 use mathlib.Core.List.{List, [], _∷_, _++_}
 use Prim.Native.Nat.{ℕ}
 use Rattle.octets.proofs.Bools.{first-of, second-of}
-use Rattle.validator.specs.Questions.{Questions, firstNo}
-use Rattle.validator.specs.declared.answer.StandardRoutingError.{StandardRoutingError}
-use Rattle.validator.specs.declared.answer.Validation.{Validation}
-use Rattle.validator.specs.declared.answer.Validation.the-variants.{Valid, Invalid}
-use Rattle.validator.specs.declared.answer.StepAnswer.{StepAnswer}
-use Rattle.validator.specs.declared.answer.StepAnswer.the-variants.{Refused}
-use Rattle.routing.specs.Outcome.{Outcome, asks}
+use Rattle.answers.specs.Questions.{Questions, firstNo}
+use Rattle.answers.specs.declared.StandardRoutingError.{StandardRoutingError}
+use Rattle.answers.specs.declared.Validation.{Validation}
+use Rattle.answers.specs.declared.Validation.the-variants.{Valid, Invalid}
+use Rattle.answers.specs.declared.StepAnswer.{StepAnswer}
+use Rattle.answers.specs.declared.StepAnswer.the-variants.{Refused}
+use Rattle.answers.specs.Outcome.{Outcome, asks}
 
 -- ---- questions
 

@@ -6,14 +6,14 @@ use mathlib.Core.Bool.{Bool, true, not, _&&_, _||_, cond}
 use mathlib.Core.List.{List, [], _∷_}
 use lib.Dec.{eqb, leb}
 use lib.ListN.{getD}
-use Rattle.standard_path.specs.Mac.{macChainingBeta}
-use Rattle.standard_path.specs.Fields.{seg0Len, seg1Len, seg2Len, byDirection, consDir, segId, timestamp, expTime, macField, travelIngress, travelEgress, expiry}
+use Rattle.hop_mac.specs.Mac.{macChainingBeta}
+use Rattle.standard_path.specs.Meta.{seg0Len, seg1Len, seg2Len}
+use Rattle.fields.specs.Fields.{byDirection, consDir, segId, timestamp, expTime, macField, travelIngress, travelEgress, expiry}
 use Rattle.standard_path.specs.Header.{infos, infoField, hopField, segmentStart}
 use Rattle.interface_table.specs.Table.{stateOf, pairAllowed}
-use Rattle.validator.specs.Check.{macNumber, rightMac, isListed, linkOf}
+use Rattle.validator.specs.Check.{macNumber, rightMac, isListed, linkOf, keyMac, isUpListed}
 use Rattle.edition.specs.declared.Edition.{Edition}
 use Rattle.edition.specs.Edition.{peeringPath, peeringHop, peeringFits}
-use Rattle.routing.specs.Step.{keyMac, isUpListed}
 use Rattle.itinerary.specs.Itinerary.{Station}
 
 -- whether it holds of each number below n

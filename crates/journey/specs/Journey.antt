@@ -8,14 +8,15 @@ use mathlib.Core.List.{List, [], _∷_}
 use mathlib.Core.Logic.{_↔_}
 use lib.Dec.{eqb}
 use lib.ListN.{length, getD}
-use Rattle.validator.specs.declared.answer.LocalAsRoutingAction.the-variants.{IngressSCMPHandleRequest, EgressSCMPHandleRequest, ForwardLocal}
-use Rattle.validator.specs.declared.answer.AsRoutingAction.the-variants.{Local, ForwardNextHop}
-use Rattle.validator.specs.declared.answer.StepAnswer.{StepAnswer}
-use Rattle.validator.specs.declared.answer.StepAnswer.the-variants.{Action, Refused}
-use Rattle.routing.specs.Outcome.{Outcome}
-use Rattle.routing.specs.Step.{keyMac, step}
+use Rattle.answers.specs.declared.LocalAsRoutingAction.the-variants.{IngressSCMPHandleRequest, EgressSCMPHandleRequest, ForwardLocal}
+use Rattle.answers.specs.declared.AsRoutingAction.the-variants.{Local, ForwardNextHop}
+use Rattle.answers.specs.declared.StepAnswer.{StepAnswer}
+use Rattle.answers.specs.declared.StepAnswer.the-variants.{Action, Refused}
+use Rattle.answers.specs.Outcome.{Outcome}
+use Rattle.validator.specs.Check.{keyMac}
+use Rattle.routing.specs.Step.{step}
 use Rattle.edition.specs.declared.Edition.{Edition}
-use Rattle.itinerary.specs.Layout.{Layout}
+use Rattle.records.specs.Layout.{Layout}
 use Rattle.itinerary.specs.Itinerary.{Station, stations}
 use Rattle.journey.specs.declared.answer.Verdict.{Verdict}
 use Rattle.journey.specs.declared.answer.Verdict.the-variants.{Passed}

@@ -4,11 +4,12 @@ use Prim.Native.Nat.{ℕ, _+_, _-_}
 use mathlib.Core.Bool.{Bool, true, not, _&&_, cond}
 use mathlib.Core.List.{List, [], _∷_}
 use lib.Dec.{eqb, leb}
-use Rattle.standard_path.specs.Fields.{currInf, currHf, consIngressAlert, consEgressAlert}
+use Rattle.standard_path.specs.Meta.{currInf, currHf}
+use Rattle.fields.specs.Fields.{consIngressAlert, consEgressAlert}
 use Rattle.standard_path.specs.Header.{infos, hops, hopField, metaThere, fieldsThere, hopsFew}
 use Rattle.edition.specs.declared.Edition.{Edition}
 use Rattle.edition.specs.Edition.{peeringPath}
-use Rattle.itinerary.specs.Layout.{Layout}
+use Rattle.records.specs.Layout.{Layout}
 use Rattle.itinerary.specs.Itinerary.{stations, itineraryFits}
 use Rattle.journey.specs.declared.answer.JourneyError.{JourneyError}
 use Rattle.journey.specs.declared.answer.JourneyError.the-variants.{MetaTooShort, DataTooShort, TooManyHops, UnfitItinerary, NotAtStart, AlertSet}

@@ -9,12 +9,12 @@ use borrow.Author.Tests.{eqb-true}
 use lib.Dec.{eqb, leb}
 use lib.ListN.{length, getD}
 use Rattle.octets.proofs.Bools.{each-of-4}
-use Rattle.standard_path.specs.Fields.{timestamp}
+use Rattle.fields.specs.Fields.{timestamp}
 use Rattle.standard_path.specs.Header.{infos, hops, infoField}
 use Rattle.edition.specs.declared.Edition.{Edition}
 use Rattle.edition.specs.Edition.{peeringPath}
-use Rattle.itinerary.specs.Layout.{Layout}
-use Rattle.itinerary.specs.Records.{recordCount, nextOf, keyOf, firstStation, chain}
+use Rattle.records.specs.Layout.{Layout}
+use Rattle.records.specs.Records.{recordCount, nextOf, keyOf, firstStation, chain}
 use Rattle.itinerary.specs.Itinerary.{stationRecords, stationWithin, stationAt, stations, soundWithin, fitsWithin, itineraryFits}
 use Rattle.itinerary.proofs.Stations.{count-by-records, next-record, station-from-record}
 use Rattle.journey.specs.Check.{segmentFits, linkFits, jointFits, peeringHopOf, shared, startOf, countOf, hopOf, noStation, stationOf, segmentPasses, jointPasses}

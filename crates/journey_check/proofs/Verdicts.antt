@@ -9,7 +9,7 @@ use Rattle.standard_path.specs.Header.{metaThere, fieldsThere, hopsFew, headerC
 use Rattle.standard_path.specs.declared.view.HeaderCheck.{HeaderCheck}
 use Rattle.standard_path.specs.declared.view.HeaderCheck.the-variants as header
 use Rattle.edition.specs.declared.Edition.{Edition}
-use Rattle.itinerary.specs.Layout.{Layout}
+use Rattle.records.specs.Layout.{Layout}
 use Rattle.itinerary.specs.Itinerary.{stations}
 use Rattle.journey.specs.declared.answer.JourneyError.the-variants.{MetaTooShort, DataTooShort, TooManyHops}
 use Rattle.journey.specs.declared.answer.Verdict.{Verdict}

@@ -7,12 +7,12 @@ use Prim.Native.Nat.{ℕ, zero, suc, _+_, _-_, _≤_, _<_}
 use native.Mathlib.Omega.{arith}
 use borrow.Author.Tests.{lt-leb, le-leb}
 use native.Mathlib.Numerals.{add-one}
-use Rattle.standard_path.specs.Mac.{macBetaStep, macChainingBeta}
-use Rattle.standard_path.specs.Fields.{byDirection, consDir, segId, timestamp, macField}
+use Rattle.hop_mac.specs.Mac.{macBetaStep, macChainingBeta}
+use Rattle.fields.specs.Fields.{byDirection, consDir, segId, timestamp, macField}
 use Rattle.standard_path.specs.Header.{infoField}
 use Rattle.edition.specs.declared.Edition.{Edition}
-use Rattle.itinerary.specs.Layout.{narrow}
-use Rattle.itinerary.specs.Records.{nextOf}
+use Rattle.records.specs.Layout.{narrow}
+use Rattle.records.specs.Records.{nextOf}
 use Rattle.itinerary.specs.Itinerary.{Station, stationAt}
 use Rattle.journey.specs.Check.{all, macsFrom, chainedSegId, countOf, hopOf, peeringHopOf, hopFits, segmentFits}
 use Rattle.journey.proofs.Stands.{chain-one-more}

@@ -6,7 +6,7 @@ use mathlib.Core.Bool.{true}
 use mathlib.Core.List.{List}
 use lib.ListN.{length}
 use Rattle.edition.specs.declared.Edition.{Edition}
-use Rattle.itinerary.specs.Layout.{Layout}
+use Rattle.records.specs.Layout.{Layout}
 use Rattle.itinerary.specs.Itinerary.{stations}
 use Rattle.journey.specs.Check.{lengthsPass}
 use Rattle.journey.specs.Verdict.{stationCount}

@@ -3,8 +3,8 @@
 -- Assumes nothing.
 use Prim.Native.Nat.{ℕ, zero, suc}
 use mathlib.Core.List.{List}
-use Rattle.itinerary.specs.Layout.{Layout}
-use Rattle.itinerary.specs.Records.{nextOf}
+use Rattle.records.specs.Layout.{Layout}
+use Rattle.records.specs.Records.{nextOf}
 
 unfoldable pub recordAfter : Layout → List ℕ → ℕ → ℕ → ℕ
 recordAfter layout itinerary index zero = index

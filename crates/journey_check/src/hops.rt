@@ -1,22 +1,18 @@
 // A hop of a segment: where it stands in the path, and what is asked of it at its station.
-use aes_cmac::aes;
-use aes_cmac::cmac;
 use edition::Edition;
 use interface_table::Listed;
-use itinerary::record;
 use itinerary::station::lookup;
 use standard_path::view;
-use validator::check::expected_mac;
-use validator::check::mac_number;
+use validator::expected_mac;
+use validator::mac_number;
 ghost use mathlib.Core.Path.{_≡_};
 ghost use Prim.Native.Nat.{_<_};
 ghost use lib.Dec.{eqb};
-ghost use Rattle.aes_cmac.specs.ByTable.{roundTable};
-ghost use Rattle.standard_path.specs.Fields.{macField};
+ghost use Rattle.aes.specs.ByTable.{roundTable};
+ghost use Rattle.fields.specs.Fields.{macField};
 ghost use Rattle.standard_path.specs.Header.{infoField};
-ghost use Rattle.validator.specs.Check.{macNumber, rightMac};
-ghost use Rattle.routing.specs.Step.{keyMac};
-ghost use Rattle.itinerary.specs.Layout.{narrow};
+ghost use Rattle.validator.specs.Check.{macNumber, rightMac, keyMac};
+ghost use Rattle.records.specs.Layout.{narrow};
 ghost use Rattle.itinerary.specs.Itinerary.{stationAt};
 ghost use Rattle.journey.specs.Check.{startOf, countOf, hopOf, peeringHopOf, chainedSegId, arrivesBy, leavesBy, hopFits};
 
@@ -67,20 +63,20 @@ fn mac_fits(table: &[u8; 1024], key: [u8; 16], info: &[u8], hop: &[u8], segment_
 {
     let round_keys = aes::expand_key(key);
     let k1 = cmac::subkey_with(table, round_keys);
-    expected_mac(table, round_keys, k1, hop, info, segment_id) == mac_number(view::mac(hop))
+    expected_mac(table, round_keys, k1, hop, info, segment_id) == mac_number(fields::mac(hop))
 }
 
 pub fn arrives_by(itinerary: &[u8], station: u32, info: &[u8], hop: &[u8]) -> bool
     ensures { λ r. ⌜ r ≡ arrivesBy (stationAt narrow (now (itinerary .entry)) station) (now (info .entry)) (now (hop .entry)) ⌝ }
 {
-    let ingress = view::ingress_interface(hop, info);
-    (ingress == 0) | (ingress == record::arrival(itinerary, station))
+    let ingress = fields::ingress_interface(hop, info);
+    (ingress == 0) | (ingress == records::arrival(itinerary, station))
 }
 
 pub fn leaves_by(itinerary: &[u8], station: u32, info: &[u8], hop: &[u8]) -> bool
     ensures { λ r. ⌜ r ≡ leavesBy (stationAt narrow (now (itinerary .entry)) station) (now (info .entry)) (now (hop .entry)) ⌝ }
 {
-    match lookup(itinerary, station, view::egress_interface(hop, info)) {
+    match lookup(itinerary, station, fields::egress_interface(hop, info)) {
         Listed::State(state) => interface_table::is_up(state),
         Listed::Nothing => false,
     }
@@ -108,8 +104,8 @@ pub fn hop_fits(
 {
     let info = view::info_field(path, segment);
     let field = hop_of(path, segment, hop);
-    let key = record::key(itinerary, station);
-    let fits = (latest <= view::expiry_timestamp(field, info))
+    let key = records::key(itinerary, station);
+    let fits = (latest <= fields::expiry_timestamp(field, info))
         & mac_fits(table, key, info, field, segment_id)
         & ((hop == 0) | arrives_by(itinerary, station, info, field));
     if hop_count(path, segment) <= hop + 1 {

@@ -10,7 +10,7 @@ ghost use mathlib.Core.Path.{_≡_};
 ghost use Prim.Native.Nat.{_+_, _-_, _<_};
 ghost use Rattle.standard_path.specs.Header.{infos};
 ghost use Rattle.validator.specs.Check.{linkOf};
-ghost use Rattle.itinerary.specs.Layout.{narrow};
+ghost use Rattle.records.specs.Layout.{narrow};
 ghost use Rattle.itinerary.specs.Itinerary.{stationAt, stations};
 ghost use Rattle.journey.specs.Check.{all, linkFits, jointFits, jointPasses};
 ghost use Rattle.journey_check.specs.Matched.{Matched};
@@ -36,13 +36,14 @@ fn joint_fits(
     ensures { λ r. ⌜ r ≡ jointFits (stationAt narrow (now (itinerary .entry)) station) (now (info .entry)) (now (hop .entry))
         (now («next_info» .entry)) (now («next_hop» .entry)) ⌝ }
 {
-    let Listed::State(state) = lookup(itinerary, station, view::ingress_interface(hop, info)) else {
+    let Listed::State(state) = lookup(itinerary, station, fields::ingress_interface(hop, info))
+    else {
         return false;
     };
     let out = lookup(
         itinerary,
         station,
-        view::egress_interface(next_hop, next_info),
+        fields::egress_interface(next_hop, next_info),
     );
     interface_table::is_allowed_pair(interface_table::link_type(state), link_of(out))
         & hops::arrives_by(itinerary, station, next_info, next_hop)

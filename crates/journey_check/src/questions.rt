@@ -1,7 +1,6 @@
 // The journey check: 01's questions 2 to 4 and 23 to 25, then the conditions of a pass.
 use crate::joints;
 use crate::segments;
-use aes_cmac::aes;
 use edition::Edition;
 use itinerary::station;
 use journey::answer::JourneyError;
@@ -12,9 +11,10 @@ ghost use mathlib.Core.Path.{_≡_};
 ghost use mathlib.Core.Bool.{not, _&&_, cond};
 ghost use lib.Dec.{eqb, leb};
 ghost use lib.ListN.{length, drop};
-ghost use Rattle.aes_cmac.specs.ByTable.{roundTable};
-ghost use Rattle.standard_path.specs.Fields.{currHf, currInf, consIngressAlert, consEgressAlert};
-ghost use Rattle.itinerary.specs.Layout.{narrow};
+ghost use Rattle.aes.specs.ByTable.{roundTable};
+ghost use Rattle.standard_path.specs.Meta.{currHf, currInf};
+ghost use Rattle.fields.specs.Fields.{consIngressAlert, consEgressAlert};
+ghost use Rattle.records.specs.Layout.{narrow};
 ghost use Rattle.itinerary.specs.Itinerary.{stations, itineraryFits};
 ghost use Rattle.journey.specs.Check.{passes};
 ghost use Rattle.journey.specs.Verdict.{stationCount, quiet, questions, firstNo, journeyCheck};
@@ -87,7 +87,7 @@ fn is_at_start(path: &[u8]) -> bool
 fn is_hop_quiet(hop: &[u8]) -> bool
     ensures { λ r. ⌜ r ≡ (not (consIngressAlert (now (hop .entry))) && not (consEgressAlert (now (hop .entry)))) ⌝ }
 {
-    !view::cons_ingress_router_alert(hop) & !view::cons_egress_router_alert(hop)
+    !fields::cons_ingress_router_alert(hop) & !fields::cons_egress_router_alert(hop)
 }
 
 fn is_quiet(path: &[u8]) -> bool

@@ -1,18 +1,17 @@
 // The lengths of a path, and what is asked of each of its segments.
 use crate::hops;
 use edition::Edition;
-use itinerary::record;
+use hop_mac::mac_beta_step;
 use itinerary::station::station_record;
-use standard_path::mac::mac_beta_step;
 use standard_path::view;
 ghost use mathlib.Core.Path.{_≡_};
 ghost use Prim.Native.Nat.{_-_, _<_, _≤_};
 ghost use lib.ListN.{getD};
-ghost use Rattle.aes_cmac.specs.ByTable.{roundTable};
-ghost use Rattle.standard_path.specs.Fields.{seg0Len, seg1Len, seg2Len};
+ghost use Rattle.aes.specs.ByTable.{roundTable};
+ghost use Rattle.standard_path.specs.Meta.{seg0Len, seg1Len, seg2Len};
 ghost use Rattle.standard_path.specs.Header.{infos, infoField};
-ghost use Rattle.itinerary.specs.Layout.{narrow};
-ghost use Rattle.itinerary.specs.Records.{recordCount};
+ghost use Rattle.records.specs.Layout.{narrow};
+ghost use Rattle.records.specs.Records.{recordCount};
 ghost use Rattle.itinerary.specs.Itinerary.{stationRecords, stationAt, stations};
 ghost use Rattle.journey.specs.Check.{all, longEnough, lengthsFit, lengthsPass, startOf, countOf, hopOf, peeringHopOf, shared};
 ghost use Rattle.journey.specs.Check.{chainedSegId, segmentFits, segmentPasses};
@@ -56,7 +55,7 @@ fn chained_segment_id(edition: Edition, path: &[u8], segment: u8, before: u16, h
     ensures { λ r. ⌜ r ≡ chainedSegId (peeringHopOf edition (now (path .entry)) segment) (infoField (now (path .entry)) segment)
         (hopOf (now (path .entry)) segment) hop ⌝ }
 {
-    let cons_dir = view::cons_dir(view::info_field(path, segment));
+    let cons_dir = fields::cons_dir(view::info_field(path, segment));
     if hop == 0 {
         return before;
     }
@@ -64,7 +63,7 @@ fn chained_segment_id(edition: Edition, path: &[u8], segment: u8, before: u16, h
     if hops::is_peering_hop(edition, path, segment, stepped) {
         return before;
     }
-    mac_beta_step(before, view::mac(hops::hop_of(path, segment, stepped)))
+    mac_beta_step(before, fields::mac(hops::hop_of(path, segment, stepped)))
 }
 
 // A segment whose first hop is at the station with this record.
@@ -84,12 +83,12 @@ fn segment_fits(
         (hopOf (now (path .entry)) segment) (countOf (now (path .entry)) segment) ⌝ }
 {
     let info = view::info_field(path, segment);
-    if earliest < view::timestamp(info) {
+    if earliest < fields::timestamp(info) {
         return false;
     }
     let count = hops::hop_count(path, segment);
     let mut station = first;
-    let mut segment_id = view::segment_id(info);
+    let mut segment_id = fields::segment_id(info);
     let mut hop: u8 = 0;
     while hop < count {
         segment_id = chained_segment_id(edition, path, segment, segment_id, hop);
@@ -106,7 +105,7 @@ fn segment_fits(
         ) {
             return false;
         }
-        station = record::next(itinerary, station);
+        station = records::next(itinerary, station);
         hop += 1;
     }
     true

@@ -4,8 +4,8 @@ use Prim.Native.Nat.{ℕ}
 use mathlib.Core.Bool.{true, false}
 use mathlib.Core.List.{List, [], _∷_, _++_}
 use mathlib.Core.Path.{_≡_, refl}
-use Rattle.standard_path.specs.Mac.{macBetaStep, macChainingBeta}
-use Rattle.standard_path.specs.Fields.{consDir, peering, segId, macField}
+use Rattle.hop_mac.specs.Mac.{macBetaStep, macChainingBeta}
+use Rattle.fields.specs.Fields.{consDir, peering, segId, macField}
 use Rattle.standard_path.specs.Header.{infos, hops, infoField, hopField}
 use Rattle.edition.specs.declared.Edition.the-variants.{First, Second}
 use Rattle.edition.specs.Edition.{peeringForm, peeringPlaced, peeringFits}

@@ -4,28 +4,29 @@ use Prim.Native.Nat.{ℕ}
 use mathlib.Core.Bool.{Bool, true}
 use mathlib.Core.List.{List, [], _∷_, _++_}
 use mathlib.Core.Path.{_≡_, refl}
-use Rattle.standard_path.specs.Mac.{macBetaStep}
-use Rattle.standard_path.specs.Fields.{setCurrInf, setCurrHf, consDir, peering, segId, timestamp, consEgressAlert, consIngressAlert, expTime}
-use Rattle.standard_path.specs.Fields.{consIngress, consEgress, macField, travelIngress, travelEgress, travelIngressAlert, travelEgressAlert, expiry}
+use Rattle.hop_mac.specs.Mac.{macBetaStep}
+use Rattle.standard_path.specs.Meta.{setCurrInf, setCurrHf}
+use Rattle.fields.specs.Fields.{consDir, peering, segId, timestamp, consEgressAlert, consIngressAlert, expTime, consIngress, consEgress, macField, travelIngress, travelEgress, travelIngressAlert, travelEgressAlert, expiry}
 use Rattle.standard_path.specs.Header.{infos, hops, headerSize, infoField, hopField}
-use Rattle.standard_path.specs.Moves.{setSegId, clearIngressAlert}
+use Rattle.moves.specs.Writes.{setSegId, clearIngressAlert}
 use Rattle.interface_table.specs.Table.{idsAscending, statesSound, tableSound, stateOf, linkType, isUp, isAmong, pairAllowed}
-use Rattle.validator.specs.Questions.{firstNo}
-use Rattle.validator.specs.Check.{MacFunction}
-use Rattle.validator.specs.Answer.{refusalNumber, refusalValues}
-use Rattle.validator.specs.declared.answer.LocalAsRoutingAction.the-variants.{ForwardLocal}
-use Rattle.validator.specs.declared.answer.AsRoutingAction.the-variants.{Local, ForwardNextHop}
-use Rattle.validator.specs.declared.answer.IngressNextAction.{IngressNextAction}
-use Rattle.validator.specs.declared.answer.IngressNextAction.the-variants.{ContinueEgress, Complete, Refused as Stopped}
-use Rattle.validator.specs.declared.answer.StepAnswer.{StepAnswer}
-use Rattle.validator.specs.declared.answer.StepAnswer.the-variants.{Action, Refused}
+use Rattle.answers.specs.Questions.{firstNo}
+use Rattle.validator.specs.Check.{MacFunction, atIngress, atEgress}
+use Rattle.answers.specs.Answer.{refusalNumber, refusalValues}
+use Rattle.answers.specs.declared.LocalAsRoutingAction.the-variants.{ForwardLocal}
+use Rattle.answers.specs.declared.AsRoutingAction.the-variants.{Local, ForwardNextHop}
+use Rattle.answers.specs.declared.IngressNextAction.{IngressNextAction}
+use Rattle.answers.specs.declared.IngressNextAction.the-variants.{ContinueEgress, Complete, Refused as Stopped}
+use Rattle.answers.specs.declared.StepAnswer.{StepAnswer}
+use Rattle.answers.specs.declared.StepAnswer.the-variants.{Action, Refused}
 use Rattle.edition.specs.declared.Edition.{Edition}
 use Rattle.edition.specs.declared.Edition.the-variants.{First, Second}
-use Rattle.routing.specs.Outcome.{Outcome}
+use Rattle.answers.specs.Outcome.{Outcome}
 use Rattle.edition.specs.Edition.{peeringForm, peeringPlaced}
-use Rattle.routing.specs.Ingress.{stepped, ingressMove, ingressAction, ingress}
-use Rattle.routing.specs.Egress.{egressMove, leavingAction, egress}
-use Rattle.routing.specs.Step.{atIngress, atEgress, finished, stepFrom, step}
+use Rattle.moves.specs.Moves.{stepped, ingressMove, egressMove}
+use Rattle.ingress.specs.Ingress.{ingressAction, ingress}
+use Rattle.egress.specs.Egress.{leavingAction, egress}
+use Rattle.routing.specs.Step.{finished, stepFrom, step}
 
 abbrev ids : List ℕ
 ids = 1 ∷ 2 ∷ []

@@ -9,22 +9,19 @@ use lib.Dec.{leb}
 use borrow.Author.Tests.{leb-true}
 use lib.ListN.{length, getD, take, drop, length-set}
 use lib.Seq.{take-add, drop-at, length-take-le, drop-set-lt, getD-take}
-use Rattle.standard_path.specs.Layout.{infoOffset, hopOffset}
-use Rattle.standard_path.specs.Fields.{currInf, currHf, seg0Len, seg1Len, seg2Len, setCurrInf, setCurrHf}
+use Rattle.fields.specs.Layout.{infoOffset, hopOffset}
+use Rattle.standard_path.specs.Meta.{currInf, currHf, seg0Len, seg1Len, seg2Len, setCurrInf, setCurrHf}
 use Rattle.standard_path.specs.Header.{infos, hops, headerSize, infoField, hopField, headerCheck}
 use Rattle.standard_path.proofs.IndexSet.{set-hf-kept, set-hf-byte, set-inf-byte, hf-after-hf, hf-after-inf, inf-after-inf}
 use Rattle.segments.specs.Segments.{segments, segmentCount}
-use Rattle.reverse.specs.Reverse.{swapLengths, toggleConsDirs, reverseFields, reverseParts, reversed}
-use Rattle.reverse.specs.Reverse.{bytesLeft, reverseAnswer, reverseBytes}
+use Rattle.reverse.specs.Reverse.{swapLengths, toggleConsDirs, reverseFields, reverseParts, reversed, bytesLeft, reverseAnswer, reverseBytes}
 use Rattle.reverse.specs.declared.Reversal.{Reversal}
 use Rattle.reverse.specs.declared.Reversal.the-variants.{Reversed, Failed}
-use Rattle.reverse.specs.declared.PathReverseError.the-variants.{MetaTooShort, DataTooShort, TooManyHops}
-use Rattle.reverse.specs.declared.PathReverseError.the-variants.{NoSegments, HopOutOfBounds, InfoOutOfBounds}
+use Rattle.reverse.specs.declared.PathReverseError.the-variants.{MetaTooShort, DataTooShort, TooManyHops, NoSegments, HopOutOfBounds, InfoOutOfBounds}
 use Rattle.reverse.proofs.FieldOrder.{length-reverse-fields, before-fields, behind-fields, reversed-field}
 use Rattle.segments.proofs.Walk.{count-at-most}
 use Rattle.reverse.proofs.Reversible.{Whole, whole, Reversible, reversible}
-use Rattle.reverse.proofs.ReversedLengths.{Lengths, own-lengths, infos-of, hops-of, length-swap-lengths, behind-lengths}
-use Rattle.reverse.proofs.ReversedLengths.{swapped-infos, swapped-hops, swapped-used}
+use Rattle.reverse.proofs.ReversedLengths.{Lengths, own-lengths, infos-of, hops-of, length-swap-lengths, behind-lengths, swapped-infos, swapped-hops, swapped-used}
 use Rattle.reverse.proofs.ReversedInfos.{toggleInfo, length-toggle, before-toggle, behind-toggle, toggled-info}
 
 -- ---- the fields

@@ -11,8 +11,8 @@ use lib.Dec.{eqb}
 use lib.ListN.{length, getD, set, take, drop, length-set}
 use lib.Seq.{take-set-le, take-set-lt, drop-set-lt, drop-set-add, getD-take, getD-drop}
 use borrow.Author.Tests.{eqb-true, eqb-false, eq-eqb, ne-eqb}
-use Rattle.standard_path.specs.Layout.{infoOffset}
-use Rattle.standard_path.specs.Fields.{consDir, peering, segId, timestamp}
+use Rattle.fields.specs.Layout.{infoOffset}
+use Rattle.fields.specs.Fields.{consDir, peering, segId, timestamp}
 use Rattle.standard_path.proofs.Kept.{part-kept}
 use Rattle.reverse.specs.Reverse.{toggled, toggleConsDir, toggleConsDirs}
 

@@ -9,8 +9,8 @@ use lib.Dec.{eqb}
 use lib.ListN.{length, getD, drop, length-set}
 use lib.Seq.{drop-set-lt}
 use borrow.Author.Tests.{eqb-true, eqb-false, eq-eqb, ne-eqb}
-use Rattle.standard_path.specs.Layout.{infoCount, hopCount}
-use Rattle.standard_path.specs.Fields.{seg0Len, seg1Len, seg2Len}
+use Rattle.fields.specs.Layout.{infoCount, hopCount}
+use Rattle.standard_path.specs.Meta.{seg0Len, seg1Len, seg2Len}
 use Rattle.standard_path.specs.Header.{infos, hops}
 use Rattle.segments.specs.Segments.{segments, segmentCount}
 use Rattle.reverse.specs.Reverse.{setLengths, swapLengths}

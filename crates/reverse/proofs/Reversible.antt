@@ -8,7 +8,7 @@ use native.Mathlib.Omega.{arith}
 use lib.Dec.{eqb, leb}
 use lib.ListN.{length}
 use borrow.Author.Tests.{leb-true, leb-false, eqb-false, eq-eqb, ne-eqb, le-leb, lt-leb}
-use Rattle.standard_path.specs.Fields.{currInf, currHf, seg0Len}
+use Rattle.standard_path.specs.Meta.{currInf, currHf, seg0Len}
 use Rattle.standard_path.specs.Header.{hops, headerSize, metaThere, fieldsThere, hopsFew, headerCheck}
 use Rattle.segments.specs.Segments.{segmentCount}
 use Rattle.reverse.specs.Reverse.{reverseAsked, reverseAnswer}

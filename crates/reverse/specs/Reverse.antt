@@ -5,8 +5,8 @@ use mathlib.Core.Bool.{cond}
 use mathlib.Core.List.{List, [], _++_}
 use lib.Dec.{eqb, leb}
 use lib.ListN.{getD, set, take, drop}
-use Rattle.standard_path.specs.Layout.{infoOffset, hopOffset}
-use Rattle.standard_path.specs.Fields.{currInf, currHf, seg0Len, seg1Len, seg2Len, setCurrInf, setCurrHf}
+use Rattle.fields.specs.Layout.{infoOffset, hopOffset}
+use Rattle.standard_path.specs.Meta.{currInf, currHf, seg0Len, seg1Len, seg2Len, setCurrInf, setCurrHf}
 use Rattle.standard_path.specs.Header.{infos, hops, headerCheck}
 use Rattle.standard_path.specs.declared.view.HeaderCheck.{HeaderCheck}
 use Rattle.standard_path.specs.declared.view.HeaderCheck.the-variants as header
@@ -14,8 +14,7 @@ use Rattle.segments.specs.Segments.{segmentCount}
 use Rattle.reverse.specs.declared.Reversal.{Reversal}
 use Rattle.reverse.specs.declared.Reversal.the-variants.{Reversed, Failed}
 use Rattle.reverse.specs.declared.PathReverseError.{PathReverseError}
-use Rattle.reverse.specs.declared.PathReverseError.the-variants.{MetaTooShort, DataTooShort, TooManyHops}
-use Rattle.reverse.specs.declared.PathReverseError.the-variants.{NoSegments, HopOutOfBounds, InfoOutOfBounds}
+use Rattle.reverse.specs.declared.PathReverseError.the-variants.{MetaTooShort, DataTooShort, TooManyHops, NoSegments, HopOutOfBounds, InfoOutOfBounds}
 
 -- 01's number of an error
 abbrev pub reverseNumber : PathReverseError → ℕ

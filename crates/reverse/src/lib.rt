@@ -4,16 +4,15 @@
 // 866faf5ba3, and changed: rewritten in Rattle, with contracts; a view is a slice of bytes; the error has a variant for each cause.
 // Copyright 2026 Anapaya Systems
 // Licensed under the Apache License, Version 2.0: see NOTICE.
-use standard_path::layout::HopFieldLayout;
-use standard_path::layout::InfoFieldLayout;
-use standard_path::layout::StdPathMetaLayout;
+use fields::layout::HopFieldLayout;
+use fields::layout::InfoFieldLayout;
+use fields::layout::StdPathMetaLayout;
 use standard_path::view;
 use standard_path::view::HeaderCheck;
 ghost use mathlib.Core.Path.{_≡_};
 ghost use Prim.Native.Nat.{_+_, _*_, _<_, _≤_};
-ghost use Rattle.standard_path.specs.Layout.{hopOffset};
-ghost use Rattle.reverse.specs.Reverse.{setLengths, swapLengths, toggleConsDirs};
-ghost use Rattle.reverse.specs.Reverse.{swapFields, reverseFields, reverseParts, reversed};
+ghost use Rattle.fields.specs.Layout.{hopOffset};
+ghost use Rattle.reverse.specs.Reverse.{setLengths, swapLengths, toggleConsDirs, swapFields, reverseFields, reverseParts, reversed};
 ghost use Rattle.reverse.specs.Reverse.{reverseNumber, reverseAsked, reverseAnswer, bytesLeft, reverseBytes};
 ghost use Rattle.reverse.specs.declared.Reversal.the-variants.{Reversed, Failed};
 

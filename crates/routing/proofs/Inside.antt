@@ -9,33 +9,34 @@ use native.Mathlib.Omega.{arith}
 use borrow.Author.Tests.{ltb-true, leb-true, leb-false, eqb-true, lt-ltb, le-ltb, eq-eqb}
 use lib.Dec.{eqb, ltb, leb}
 use lib.ListN.{length}
-use Rattle.standard_path.specs.Fields.{currInf, currHf, seg0Len, seg1Len, consDir, segId, travelEgress, setCurrHf, setCurrInf}
+use Rattle.standard_path.specs.Meta.{currInf, currHf, seg0Len, seg1Len, setCurrHf, setCurrInf}
+use Rattle.fields.specs.Fields.{consDir, segId, travelEgress}
 use Rattle.standard_path.specs.Header.{infos, hops, headerSize, infoField, hopField}
 use Rattle.standard_path.proofs.Kept.{infos-kept, hops-kept}
 use Rattle.standard_path.proofs.IndexSet.{set-hf-hop, set-hf-info, set-inf-hop, set-inf-info, hf-after-hf, hf-after-inf, inf-after-inf, set-hf-kept}
-use Rattle.validator.specs.Questions.{Questions, firstNo}
-use Rattle.validator.specs.Check.{MacFunction, hopQuestions, changeQuestions}
-use Rattle.validator.specs.declared.check.StandardValidator.{StandardValidator}
-use Rattle.validator.specs.declared.answer.StandardRoutingError.the-variants.{AdvanceFailed}
-use Rattle.validator.specs.declared.answer.AdvanceError.the-variants.{InvalidSegmentIndex}
-use Rattle.validator.specs.declared.answer.LocalAsRoutingAction.the-variants.{IngressSCMPHandleRequest, ForwardLocal}
-use Rattle.validator.specs.declared.answer.AsRoutingAction.the-variants.{Local}
-use Rattle.validator.specs.declared.answer.Validation.{Validation}
-use Rattle.validator.specs.declared.answer.Validation.the-variants.{Valid, Invalid}
-use Rattle.validator.specs.declared.answer.IngressNextAction.{IngressNextAction}
-use Rattle.validator.specs.declared.answer.IngressNextAction.the-variants.{ContinueEgress, Complete, Refused as Stopped}
-use Rattle.validator.specs.declared.answer.StepAnswer.the-variants.{Refused}
-use Rattle.validator.proofs.Asked.{first-yes, rest-yes, both-yes, none-asked, goes-on, last-yes}
+use Rattle.answers.specs.Questions.{Questions, firstNo}
+use Rattle.validator.specs.Check.{MacFunction, hopQuestions, changeQuestions, atIngress, atEgress}
+use Rattle.validator.specs.declared.StandardValidator.{StandardValidator}
+use Rattle.answers.specs.declared.StandardRoutingError.the-variants.{AdvanceFailed}
+use Rattle.answers.specs.declared.AdvanceError.the-variants.{InvalidSegmentIndex}
+use Rattle.answers.specs.declared.LocalAsRoutingAction.the-variants.{IngressSCMPHandleRequest, ForwardLocal}
+use Rattle.answers.specs.declared.AsRoutingAction.the-variants.{Local}
+use Rattle.answers.specs.declared.Validation.{Validation}
+use Rattle.answers.specs.declared.Validation.the-variants.{Valid, Invalid}
+use Rattle.answers.specs.declared.IngressNextAction.{IngressNextAction}
+use Rattle.answers.specs.declared.IngressNextAction.the-variants.{ContinueEgress, Complete, Refused as Stopped}
+use Rattle.answers.specs.declared.StepAnswer.the-variants.{Refused}
+use Rattle.answers.proofs.Asked.{first-yes, rest-yes, both-yes, none-asked, goes-on, last-yes}
 use Rattle.edition.specs.declared.Edition.{Edition}
-use Rattle.routing.specs.Outcome.{asks}
+use Rattle.answers.specs.Outcome.{asks}
 use Rattle.edition.specs.Edition.{peeringPath, peeringQuestions}
-use Rattle.routing.specs.Place.{before, segment, ends, isFinal, isPeeringHop, crosses, changes, ingressPlace, wayQuestions, egressPlace}
-use Rattle.routing.specs.Ingress.{hop, info, nextHop, nextInfo, ingressSegId, ingressQuestions, ingressFields, ingressMove, alertsAtIngress, leaving, ingressAction, decided, ingress}
-use Rattle.routing.specs.Egress.{egressQuestions, egressAction, egressMove, egress}
-use Rattle.routing.specs.Step.{atIngress, atEgress}
+use Rattle.place.specs.Place.{before, segment, ends, isFinal, isPeeringHop, crosses, changes, ingressPlace, wayQuestions, egressPlace, hop, info, nextHop, nextInfo}
+use Rattle.moves.specs.Moves.{ingressSegId, ingressFields, ingressMove, egressMove}
+use Rattle.ingress.specs.Ingress.{ingressQuestions, alertsAtIngress, leaving, ingressAction, decided, ingress}
+use Rattle.egress.specs.Egress.{egressQuestions, egressAction, egress}
 use Rattle.routing.proofs.Moved.{Holds, asked-alike, ingress-move-holds}
 use Rattle.edition.proofs.Peering.{peering-lengths, peering-path-kept, questions-kept}
-use Rattle.routing.proofs.Touched.{SameHop, same-hop, SameInfo, same-info, FieldsMoved, ingress-fields-moved}
+use Rattle.moves.proofs.Touched.{SameHop, same-hop, SameInfo, same-info, FieldsMoved, ingress-fields-moved}
 
 -- ---- an ingress that went on: each of its answers was yes
 

@@ -1,9 +1,3 @@
-pub mod Places
 pub mod Steps
-pub mod Touched
 pub mod Moved
 pub mod Inside
-pub mod Whole
-pub mod Numbers
-pub mod Unchecked
-pub mod Editions

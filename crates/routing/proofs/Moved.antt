@@ -8,32 +8,34 @@ use Prim.Native.Nat.{ℕ, _+_, _<_}
 use borrow.Author.Tests.{ltb-true}
 use lib.Dec.{eqb}
 use lib.ListN.{drop}
-use Rattle.standard_path.specs.Fields.{currInf, currHf, setCurrInf, setCurrHf, consDir, peering}
+use Rattle.standard_path.specs.Meta.{currInf, currHf, setCurrInf, setCurrHf}
+use Rattle.fields.specs.Fields.{consDir, peering}
 use Rattle.standard_path.specs.Header.{infos, hops, headerSize, infoField}
-use Rattle.standard_path.specs.Moves.{clearIngressAlert}
+use Rattle.moves.specs.Writes.{clearIngressAlert}
 use Rattle.standard_path.proofs.Kept.{Kept, kept-self, kept-trans, infos-kept, hops-kept, header-size-kept, header-check-kept}
-use Rattle.standard_path.proofs.SegIdSet.{seg-id-kept, seg-id-past}
-use Rattle.standard_path.proofs.AlertCleared.{alert-kept, alert-past, alert-info}
+use Rattle.moves.proofs.SegIdSet.{seg-id-kept, seg-id-past}
+use Rattle.moves.proofs.AlertCleared.{alert-kept, alert-past, alert-info}
 use Rattle.standard_path.proofs.IndexSet.{set-hf-kept, set-hf-past, set-hf-info, set-inf-kept, set-inf-past, set-inf-info}
-use Rattle.validator.specs.Questions.{firstNo}
-use Rattle.validator.specs.Check.{MacFunction}
-use Rattle.validator.specs.declared.check.StandardValidator.{StandardValidator}
-use Rattle.validator.specs.declared.answer.StandardRoutingError.{StandardRoutingError}
-use Rattle.validator.specs.declared.answer.Validation.{Validation}
-use Rattle.validator.specs.declared.answer.Validation.the-variants.{Valid, Invalid}
-use Rattle.validator.specs.declared.answer.IngressNextAction.{IngressNextAction}
-use Rattle.validator.specs.declared.answer.IngressNextAction.the-variants.{ContinueEgress, Complete, Refused}
-use Rattle.validator.proofs.Asked.{first-yes, rest-yes}
+use Rattle.answers.specs.Questions.{firstNo}
+use Rattle.validator.specs.Check.{MacFunction, atIngress, atEgress}
+use Rattle.validator.specs.declared.StandardValidator.{StandardValidator}
+use Rattle.answers.specs.declared.StandardRoutingError.{StandardRoutingError}
+use Rattle.answers.specs.declared.Validation.{Validation}
+use Rattle.answers.specs.declared.Validation.the-variants.{Valid, Invalid}
+use Rattle.answers.specs.declared.IngressNextAction.{IngressNextAction}
+use Rattle.answers.specs.declared.IngressNextAction.the-variants.{ContinueEgress, Complete, Refused}
+use Rattle.answers.proofs.Asked.{first-yes, rest-yes}
 use Rattle.edition.specs.declared.Edition.{Edition}
-use Rattle.routing.specs.Outcome.{Outcome, asks}
-use Rattle.routing.specs.Place.{before, headerQuestions, ingressPlace, egressPlace, changes, crosses}
-use Rattle.routing.specs.Ingress.{info, stepped, stepsAtIngress, ingressFields, ingressMove, ingress}
-use Rattle.routing.specs.Egress.{egressAhead, egressMove, egress}
-use Rattle.routing.specs.Step.{atIngress, atEgress, leavingQuestions, leave, stepFrom, step}
+use Rattle.answers.specs.Outcome.{Outcome, asks}
+use Rattle.place.specs.Place.{before, headerQuestions, ingressPlace, egressPlace, changes, crosses, info}
+use Rattle.moves.specs.Moves.{stepped, stepsAtIngress, ingressFields, ingressMove, egressAhead, egressMove}
+use Rattle.ingress.specs.Ingress.{ingress}
+use Rattle.egress.specs.Egress.{egress}
+use Rattle.routing.specs.Step.{leavingQuestions, leave, stepFrom, step}
 use Rattle.interface_table.specs.Table.{stateOf}
-use Rattle.validator.specs.declared.answer.StepAnswer.the-variants.{Refused as Stopped}
-use Rattle.routing.proofs.Touched.{stepped-info}
-use Rattle.routing.proofs.Places.{asValidation, header-law}
+use Rattle.answers.specs.declared.StepAnswer.the-variants.{Refused as Stopped}
+use Rattle.moves.proofs.Touched.{stepped-info}
+use Rattle.place.proofs.Places.{asValidation, header-law}
 
 pub record Holds (path after : List ℕ) : Type 0 where
   pub kept : Kept path after

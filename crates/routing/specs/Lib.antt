@@ -1,5 +1,1 @@
-pub mod Outcome
-pub mod Place
-pub mod Ingress
-pub mod Egress
 pub mod Step

@@ -1,41 +1,26 @@
 -- 01, 'spec/standard.rs': the whole step. Ingress; if it goes on, whether the leaving interface is listed and up; egress.
 -- Assumes nothing.
 use Prim.Native.Nat.{ℕ}
-use mathlib.Core.Bool.{Bool, true, false}
+use mathlib.Core.Bool.{Bool}
 use mathlib.Core.List.{List, [], _∷_}
-use Rattle.standard_path.specs.Mac.{hopMac}
-use Rattle.standard_path.specs.Fields.{currHf, consDir}
-use Rattle.interface_table.specs.Table.{stateOf, isUp}
+use Rattle.standard_path.specs.Meta.{currHf}
+use Rattle.fields.specs.Fields.{consDir}
+use Rattle.interface_table.specs.Table.{stateOf}
 use Rattle.interface_table.specs.declared.Listed.{Listed}
-use Rattle.interface_table.specs.declared.Listed.the-variants.{State, Nothing}
-use Rattle.validator.specs.Questions.{Questions, firstNo}
-use Rattle.validator.specs.Check.{MacFunction, isListed}
-use Rattle.validator.specs.declared.check.StandardValidator.{StandardValidator}
-use Rattle.validator.specs.declared.answer.StandardRoutingError.the-variants.{UnknownEgressInterface, EgressInterfaceDown}
-use Rattle.validator.specs.declared.answer.IngressNextAction.{IngressNextAction}
-use Rattle.validator.specs.declared.answer.IngressNextAction.the-variants.{ContinueEgress, Complete, Refused as Stopped}
-use Rattle.validator.specs.declared.answer.AsRoutingAction.the-variants.{ForwardNextHop}
-use Rattle.validator.specs.declared.answer.StepAnswer.{StepAnswer}
-use Rattle.validator.specs.declared.answer.StepAnswer.the-variants.{Action, Refused}
+use Rattle.answers.specs.Questions.{Questions, firstNo}
+use Rattle.validator.specs.Check.{MacFunction, isListed, isUpListed, atIngress, atEgress}
+use Rattle.validator.specs.declared.StandardValidator.{StandardValidator}
+use Rattle.answers.specs.declared.StandardRoutingError.the-variants.{UnknownEgressInterface, EgressInterfaceDown}
+use Rattle.answers.specs.declared.IngressNextAction.{IngressNextAction}
+use Rattle.answers.specs.declared.IngressNextAction.the-variants.{ContinueEgress, Complete, Refused as Stopped}
+use Rattle.answers.specs.declared.AsRoutingAction.the-variants.{ForwardNextHop}
+use Rattle.answers.specs.declared.StepAnswer.{StepAnswer}
+use Rattle.answers.specs.declared.StepAnswer.the-variants.{Action, Refused}
 use Rattle.edition.specs.declared.Edition.{Edition}
-use Rattle.routing.specs.Outcome.{Outcome, asks}
-use Rattle.routing.specs.Ingress.{info, ingress}
-use Rattle.routing.specs.Egress.{egress}
-
--- the hop MAC under a key
-abbrev pub keyMac : List ℕ → MacFunction
-keyMac key = λ segId start units ingress egress. hopMac segId start units ingress egress key
-
--- where the checks are made: at ingress or egress, on which interface, when, and whether MACs are ignored
-abbrev pub atIngress : ℕ → ℕ → Bool → StandardValidator
-atIngress interface time ignored = record { ingress = true; «current_interface_id» = interface; time = time; «ignore_macs» = ignored }
-
-abbrev pub atEgress : ℕ → ℕ → Bool → StandardValidator
-atEgress interface time ignored = record { ingress = false; «current_interface_id» = interface; time = time; «ignore_macs» = ignored }
-
-abbrev pub isUpListed : Listed → Bool
-isUpListed (State state) = isUp state
-isUpListed Nothing = false
+use Rattle.answers.specs.Outcome.{Outcome, asks}
+use Rattle.place.specs.Place.{info}
+use Rattle.ingress.specs.Ingress.{ingress}
+use Rattle.egress.specs.Egress.{egress}
 
 -- 15 and 17, with what the table has for the leaving interface
 abbrev pub leavingQuestions : Listed → ℕ → List ℕ → Questions

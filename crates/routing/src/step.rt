@@ -5,30 +5,28 @@
 // call; egress inside the whole step asks only where the path stands.
 // Copyright 2025 Anapaya Systems
 // Licensed under the Apache License, Version 2.0: see NOTICE.
-use crate::egress;
-use crate::ingress;
-use crate::place;
+use answers::AsRoutingAction;
+use answers::IngressNextAction;
+use answers::StandardRoutingError;
+use answers::StepAnswer;
+use answers::Validation;
 use edition::Edition;
+use hop_mac::ForwardingKey;
 use interface_table::Listed;
-use standard_path::mac::ForwardingKey;
 use standard_path::view;
-use validator::answer::AsRoutingAction;
-use validator::answer::IngressNextAction;
-use validator::answer::StandardRoutingError;
-use validator::answer::StepAnswer;
-use validator::answer::Validation;
-use validator::check::StandardValidator;
+use validator::StandardValidator;
 ghost use mathlib.Core.Path.{_≡_};
 ghost use mathlib.Core.Bool.{cond};
 ghost use lib.Dec.{eqb};
-ghost use Rattle.standard_path.specs.Fields.{currHf};
-ghost use Rattle.validator.specs.Questions.{firstNo};
-ghost use Rattle.validator.specs.declared.answer.Validation.the-variants.{Valid};
+ghost use Rattle.standard_path.specs.Meta.{currHf};
+ghost use Rattle.answers.specs.Questions.{firstNo};
+ghost use Rattle.answers.specs.declared.Validation.the-variants.{Valid};
 ghost use Rattle.interface_table.specs.Table.{stateOf};
-ghost use Rattle.routing.specs.Place.{egressPlace};
-ghost use Rattle.routing.specs.Ingress.{ingress};
-ghost use Rattle.routing.specs.Egress.{egress};
-ghost use Rattle.routing.specs.Step.{keyMac, atIngress, atEgress, leavingQuestions, finished, step};
+ghost use Rattle.place.specs.Place.{egressPlace};
+ghost use Rattle.ingress.specs.Ingress.{ingress};
+ghost use Rattle.egress.specs.Egress.{egress};
+ghost use Rattle.validator.specs.Check.{keyMac, atIngress, atEgress};
+ghost use Rattle.routing.specs.Step.{leavingQuestions, finished, step};
 
 // ---- the halves
 
@@ -88,7 +86,7 @@ fn validate_leaving(ids: &[u16], states: &[u8], out: u16, path: &[u8]) -> Valida
 {
     let hop_index = view::curr_hop_field_idx(path);
     let Listed::State(state) = interface_table::lookup(ids, states, out) else {
-        let cons_dir = view::cons_dir(view::curr_info_field(path));
+        let cons_dir = fields::cons_dir(view::curr_info_field(path));
         return Validation::Invalid(StandardRoutingError::UnknownEgressInterface {
             hop_index,
             if_id: out,
@@ -113,7 +111,7 @@ fn validate_place(edition: Edition, path: &[u8], hop_index: u8) -> Validation
     }
     let fits = edition::peering_fits(edition, path);
     let crossing = place::crosses(edition, path);
-    place::locate_egress(edition, path, fits, crossing)
+    place::locate_egress(path, fits, crossing)
 }
 
 // The answer of an ingress that does not go on.

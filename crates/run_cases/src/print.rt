@@ -1,15 +1,15 @@
 // What a line of the output is made of.
+use answers::AsRoutingAction;
+use answers::IngressNextAction;
+use answers::LocalAsRoutingAction;
+use answers::StandardRoutingError;
+use answers::StepAnswer;
+use answers::number;
+use answers::scmp;
+use answers::scmp::ScmpError;
 use libc::STDOUT_FILENO;
 use reverse::Reversal;
 use segments::PathExpiration;
-use validator::answer::AsRoutingAction;
-use validator::answer::IngressNextAction;
-use validator::answer::LocalAsRoutingAction;
-use validator::answer::StandardRoutingError;
-use validator::answer::StepAnswer;
-use validator::number;
-use validator::scmp;
-use validator::scmp::ScmpError;
 
 pub(crate) fn put(text: &[u8]) {
     io::write_all(STDOUT_FILENO, text);

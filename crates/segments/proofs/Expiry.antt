@@ -9,10 +9,9 @@ use lib.ListN.{length, getD, drop}
 use lib.Seq.{getD-take, getD-drop}
 use denote.Ref.{RefT, now}
 use Rattle.octets.specs.Bytes.{tabulate}
-use Rattle.standard_path.specs.Fields.{timestamp, expTime, expiry}
+use Rattle.fields.specs.Fields.{timestamp, expTime, expiry}
 use Rattle.standard_path.specs.Header.{infoField}
-use Rattle.segments.specs.Segments.{hopFields, hopOf}
-use Rattle.segments.specs.Segments.{PathSegment, segments, isEnd, started, stepOf, advanced, least, hopExpiry, segmentExpiry, stepExpiry}
+use Rattle.segments.specs.Segments.{hopFields, hopOf, PathSegment, segments, isEnd, started, stepOf, advanced, least, hopExpiry, segmentExpiry, stepExpiry}
 use Rattle.segments.specs.declared.SegmentIterator.{SegmentIterator}
 use Rattle.segments.specs.declared.SegmentStep.{SegmentStep}
 use Rattle.segments.proofs.Range.{range-hop}

@@ -6,7 +6,7 @@ use Prim.Native.Nat.{ℕ, zero, suc, _+_, _*_, _-_, _<_, _≤_}
 use native.Mathlib.Omega.{arith}
 use lib.ListN.{take, drop}
 use lib.Seq.{take-nil, take-take, drop-drop}
-use Rattle.standard_path.specs.Layout.{hopOffset}
+use Rattle.fields.specs.Layout.{hopOffset}
 use Rattle.standard_path.specs.Header.{infos, hopField}
 use Rattle.segments.specs.Segments.{hopFields, hopOf}
 

@@ -10,8 +10,7 @@ use lib.Dec.{eqb}
 use denote.Ref.{RefT, now}
 use lib.ListN.{length, getD}
 use Rattle.standard_path.specs.Header.{hops}
-use Rattle.segments.specs.Segments.{PathSegment, segmentsFrom, lengths, segments, segmentCount}
-use Rattle.segments.specs.Segments.{segLen, nextSegment, placeAfter, started, stepOf, advanced}
+use Rattle.segments.specs.Segments.{PathSegment, segmentsFrom, lengths, segments, segmentCount, segLen, nextSegment, placeAfter, started, stepOf, advanced}
 use Rattle.segments.specs.declared.SegmentIterator.{SegmentIterator}
 use Rattle.segments.specs.declared.SegmentPlace.{SegmentPlace}
 use Rattle.segments.specs.declared.SegmentStep.{SegmentStep}

@@ -10,7 +10,7 @@ use denote.Ref.{now}
 use lib.Dec.{eqb, ltb, leb}
 use lib.ListN.{length, drop, length-drop}
 use lib.Seq.{length-take-le}
-use Rattle.standard_path.specs.Layout.{infoOffset, hopOffset}
+use Rattle.fields.specs.Layout.{infoOffset, hopOffset}
 use Rattle.standard_path.specs.Header.{infos, hops, headerSize, infoField}
 use Rattle.segments.specs.Segments.{segmentsFrom, lengths, segments, segmentCount, hopFields, segLen, nextSegment, stepOf}
 use Rattle.segments.specs.declared.SegmentIterator.{SegmentIterator}

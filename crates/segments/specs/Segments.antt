@@ -8,8 +8,9 @@ use lib.Dec.{eqb, ltb, leb}
 use lib.ListN.{length, getD, take, drop}
 use denote.Ref.{RefT, now}
 use Rattle.octets.specs.Bytes.{tabulate}
-use Rattle.standard_path.specs.Fields.{seg0Len, seg1Len, seg2Len, timestamp, expTime, expiry}
-use Rattle.standard_path.specs.Layout.{hopOffset}
+use Rattle.standard_path.specs.Meta.{seg0Len, seg1Len, seg2Len}
+use Rattle.fields.specs.Fields.{timestamp, expTime, expiry}
+use Rattle.fields.specs.Layout.{hopOffset}
 use Rattle.standard_path.specs.Header.{infos, hops, infoField, hopField, headerCheck}
 use Rattle.standard_path.specs.declared.view.HeaderCheck.{HeaderCheck}
 use Rattle.standard_path.specs.declared.view.HeaderCheck.the-variants as check

@@ -5,7 +5,7 @@
 // numbers, of which `info_field` and `hop_fields` make its parts; `expiration` refuses a header that is not whole.
 // Copyright 2026 Anapaya Systems
 // Licensed under the Apache License, Version 2.0: see NOTICE.
-use standard_path::layout::HopFieldLayout;
+use fields::layout::HopFieldLayout;
 use standard_path::view;
 use standard_path::view::HeaderCheck;
 ghost use mathlib.Core.Path.{_≡_};
@@ -225,9 +225,9 @@ fn segment_expiry(path: &[u8], info_idx: u8, first_hop: u8, hop_count: u8) -> u3
     if hop_count == 0 {
         return 0xffff_ffff;
     }
-    let start = view::timestamp(view::info_field(path, info_idx));
+    let start = fields::timestamp(view::info_field(path, info_idx));
     let hops = hop_fields(path, first_hop, hop_count);
-    let mut units = view::exp_time(hops);
+    let mut units = fields::exp_time(hops);
     let mut index = 1;
     while index < hop_count {
         let at = HopFieldLayout::SIZE_BYTES * (index as usize)
@@ -235,7 +235,7 @@ fn segment_expiry(path: &[u8], info_idx: u8, first_hop: u8, hop_count: u8) -> u3
         units = lesser_units(units, octets::byte_at(hops, at));
         index += 1;
     }
-    view::expiry(start, units)
+    fields::expiry(start, units)
 }
 
 // The lesser of a time and of the expiry of the segment that a step gave.

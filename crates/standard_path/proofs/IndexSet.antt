@@ -7,7 +7,7 @@ use Prim.Native.Nat.{ℕ, _+_, _*_, _/_, _%_, _<_}
 use native.Mathlib.Omega.{arith}
 use lib.ListN.{length, getD, drop}
 use lib.Seq.{getD-set-same, getD-set-other}
-use Rattle.standard_path.specs.Fields.{currInf, currHf, setCurrInf, setCurrHf}
+use Rattle.standard_path.specs.Meta.{currInf, currHf, setCurrInf, setCurrHf}
 use Rattle.standard_path.specs.Header.{headerSize, infoField, hopField}
 use Rattle.standard_path.proofs.Kept.{Kept, set-kept, set-info, set-hop, set-past}
 

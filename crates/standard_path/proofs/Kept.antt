@@ -11,8 +11,8 @@ use borrow.Author.Tests.{ltb-true, ltb-false}
 use lib.Dec.{ltb}
 use lib.ListN.{length, getD, take, drop, set, length-set, List·getD-eq-default}
 use lib.Seq.{getD-set-same, getD-set-other, getD-take, getD-drop, drop-set-lt, drop-set-add, take-set-le, set-out}
-use Rattle.standard_path.specs.Layout.{infoOffset, hopOffset}
-use Rattle.standard_path.specs.Fields.{seg0Len, seg1Len, seg2Len}
+use Rattle.fields.specs.Layout.{infoOffset, hopOffset}
+use Rattle.standard_path.specs.Meta.{seg0Len, seg1Len, seg2Len}
 use Rattle.standard_path.specs.Header.{infos, hops, headerSize, infoField, hopField, headerCheck}
 
 -- ---- a path that is as long, and has the same segment lengths

@@ -6,8 +6,8 @@ use mathlib.Core.Bool.{Bool, cond}
 use mathlib.Core.List.{List}
 use lib.Dec.{eqb, ltb, leb}
 use lib.ListN.{length, take, drop}
-use Rattle.standard_path.specs.Layout.{infoCount, hopCount, infoOffset, hopOffset}
-use Rattle.standard_path.specs.Fields.{seg0Len, seg1Len, seg2Len}
+use Rattle.fields.specs.Layout.{infoCount, hopCount, infoOffset, hopOffset}
+use Rattle.standard_path.specs.Meta.{seg0Len, seg1Len, seg2Len}
 use Rattle.standard_path.specs.declared.view.SegmentIndex.{SegmentIndex}
 use Rattle.standard_path.specs.declared.view.SegmentIndex.the-variants.{At, OutOfBounds}
 use Rattle.standard_path.specs.declared.view.HeaderCheck.{HeaderCheck}

@@ -1,5 +1,2 @@
-pub mod Mac
-pub mod Layout
-pub mod Fields
+pub mod Meta
 pub mod Header
-pub mod Moves

@@ -1,5 +1,2 @@
-// The header of SCION's standard path, and its hop MAC.
-pub mod layout;
-pub mod mac;
-pub mod moves;
+// The header of SCION's standard path.
 pub mod view;

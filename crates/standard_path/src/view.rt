@@ -1,20 +1,17 @@
-// The fields of a standard path, read out of its bytes and set in them, on all inputs: a byte past the end counts as 0.
+// The header of a standard path, read out of its bytes on all inputs, and its indices set in them: a byte past the end counts as 0.
 //
 // Ported from crates/libs/sciparse/src/proto/dataplane_path/standard/view.rs and types.rs of Anapaya/scion-sdk at commit
 // 866faf5ba3, and changed: rewritten in Rattle, with contracts; a view is a slice of bytes.
 // Copyright 2026 Anapaya Systems
 // Licensed under the Apache License, Version 2.0: see NOTICE.
-use crate::layout::HopFieldLayout;
-use crate::layout::InfoFieldLayout;
-use crate::layout::StdPathMetaLayout;
+use fields::layout::HopFieldLayout;
+use fields::layout::InfoFieldLayout;
+use fields::layout::StdPathMetaLayout;
 ghost use mathlib.Core.Path.{_≡_};
-ghost use Prim.Native.Nat.{_+_, _*_, _<_};
+ghost use Prim.Native.Nat.{_<_};
 ghost use lib.ListN.{take, drop};
-ghost use Rattle.standard_path.specs.Layout.{nonzero, hopOffset};
-ghost use Rattle.standard_path.specs.Fields.{currInf, currHf, seg0Len, seg1Len, seg2Len, setCurrInf, setCurrHf};
-ghost use Rattle.standard_path.specs.Fields.{consDir, peering, segId, timestamp, consEgressAlert, consIngressAlert};
-ghost use Rattle.standard_path.specs.Fields.{expTime, consIngress, consEgress, macField, travelIngress, travelEgress};
-ghost use Rattle.standard_path.specs.Fields.{travelIngressAlert, travelEgressAlert, expiry};
+ghost use Rattle.fields.specs.Layout.{nonzero, hopOffset};
+ghost use Rattle.standard_path.specs.Meta.{currInf, currHf, seg0Len, seg1Len, seg2Len, setCurrInf, setCurrHf};
 ghost use Rattle.standard_path.specs.Header.{infos, hops, infoField, hopField, headerCheck, segmentAmong, segmentIndex};
 
 // ---- the meta word
@@ -219,136 +216,4 @@ pub fn calculate_segment_index(path: &[u8], hop_idx: u8) -> SegmentIndex
     ensures { λ r. ⌜ r ≡ segmentIndex (now (path .entry)) «hop_idx» ⌝ }
 {
     segment_of(seg0_len(path), seg1_len(path), seg2_len(path), hop_idx)
-}
-
-// ---- an info field
-
-pub fn cons_dir(info: &[u8]) -> bool
-    ensures { λ r. ⌜ r ≡ consDir (now (info .entry)) ⌝ }
-{
-    octets::u8_at(info, InfoFieldLayout::FLAGS) % 2 == 1
-}
-
-// The flag P. The step gives it no meaning.
-pub fn peering(info: &[u8]) -> bool
-    ensures { λ r. ⌜ r ≡ peering (now (info .entry)) ⌝ }
-{
-    octets::u8_at(info, InfoFieldLayout::FLAGS) / 2 % 2 == 1
-}
-
-pub fn segment_id(info: &[u8]) -> u16
-    ensures { λ r. ⌜ r ≡ segId (now (info .entry)) ⌝ }
-{
-    octets::u16_at(info, InfoFieldLayout::SEGMENT_ID)
-}
-
-pub fn timestamp(info: &[u8]) -> u32
-    ensures { λ r. ⌜ r ≡ timestamp (now (info .entry)) ⌝ }
-{
-    octets::u32_at(info, InfoFieldLayout::TIMESTAMP)
-}
-
-// ---- a hop field
-
-pub fn cons_egress_router_alert(hop: &[u8]) -> bool
-    ensures { λ r. ⌜ r ≡ consEgressAlert (now (hop .entry)) ⌝ }
-{
-    octets::u8_at(hop, HopFieldLayout::FLAGS) % 2 == 1
-}
-
-pub fn cons_ingress_router_alert(hop: &[u8]) -> bool
-    ensures { λ r. ⌜ r ≡ consIngressAlert (now (hop .entry)) ⌝ }
-{
-    octets::u8_at(hop, HopFieldLayout::FLAGS) / 2 % 2 == 1
-}
-
-pub fn exp_time(hop: &[u8]) -> u8
-    ensures { λ r. ⌜ r ≡ expTime (now (hop .entry)) ⌝ }
-{
-    octets::u8_at(hop, HopFieldLayout::EXP_TIME)
-}
-
-pub fn cons_ingress(hop: &[u8]) -> u16
-    ensures { λ r. ⌜ r ≡ consIngress (now (hop .entry)) ⌝ }
-{
-    octets::u16_at(hop, HopFieldLayout::CONS_INGRESS)
-}
-
-pub fn cons_egress(hop: &[u8]) -> u16
-    ensures { λ r. ⌜ r ≡ consEgress (now (hop .entry)) ⌝ }
-{
-    octets::u16_at(hop, HopFieldLayout::CONS_EGRESS)
-}
-
-pub fn mac(hop: &[u8]) -> [u8; 6]
-    ensures { λ r. ⌜ r ≡ macField (now (hop .entry)) ⌝ }
-{
-    [
-        octets::u8_at(hop, HopFieldLayout::MAC),
-        octets::u8_at(hop, HopFieldLayout::MAC + 1),
-        octets::u8_at(hop, HopFieldLayout::MAC + 2),
-        octets::u8_at(hop, HopFieldLayout::MAC + 3),
-        octets::u8_at(hop, HopFieldLayout::MAC + 4),
-        octets::u8_at(hop, HopFieldLayout::MAC + 5),
-    ]
-}
-
-// ---- a hop field in travel direction
-
-pub fn ingress_interface(hop: &[u8], info: &[u8]) -> u16
-    ensures { λ r. ⌜ r ≡ travelIngress (consDir (now (info .entry))) (now (hop .entry)) ⌝ }
-{
-    if cons_dir(info) {
-        cons_ingress(hop)
-    } else {
-        cons_egress(hop)
-    }
-}
-
-pub fn egress_interface(hop: &[u8], info: &[u8]) -> u16
-    ensures { λ r. ⌜ r ≡ travelEgress (consDir (now (info .entry))) (now (hop .entry)) ⌝ }
-{
-    if cons_dir(info) {
-        cons_egress(hop)
-    } else {
-        cons_ingress(hop)
-    }
-}
-
-pub fn ingress_scmp_alert(hop: &[u8], info: &[u8]) -> bool
-    ensures { λ r. ⌜ r ≡ travelIngressAlert (consDir (now (info .entry))) (now (hop .entry)) ⌝ }
-{
-    if cons_dir(info) {
-        cons_ingress_router_alert(hop)
-    } else {
-        cons_egress_router_alert(hop)
-    }
-}
-
-pub fn egress_scmp_alert(hop: &[u8], info: &[u8]) -> bool
-    ensures { λ r. ⌜ r ≡ travelEgressAlert (consDir (now (info .entry))) (now (hop .entry)) ⌝ }
-{
-    if cons_dir(info) {
-        cons_egress_router_alert(hop)
-    } else {
-        cons_ingress_router_alert(hop)
-    }
-}
-
-// The second in which a hop field ends, capped at the largest number of 32 bits.
-pub fn expiry(start: u32, units: u8) -> u32
-    ensures { λ r. ⌜ r ≡ expiry start units ⌝ }
-{
-    let end = (start as u64) + ((units as u64) + 1) * 675 / 2;
-    if end < 0xffff_ffff {
-        end as u32
-    } else {
-        0xffff_ffff
-    }
-}
-
-pub fn expiry_timestamp(hop: &[u8], info: &[u8]) -> u32
-    ensures { λ r. ⌜ r ≡ expiry (timestamp (now (info .entry))) (expTime (now (hop .entry))) ⌝ }
-{
-    expiry(timestamp(info), exp_time(hop))
 }

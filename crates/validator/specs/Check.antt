@@ -6,25 +6,36 @@ use mathlib.Core.List.{List, [], _∷_, _++_}
 use lib.Dec.{eqb, leb}
 use lib.ListN.{take}
 use Rattle.octets.specs.Bytes.{be16At, be32At}
-use Rattle.aes_cmac.specs.ByTable.{cipherBy}
-use Rattle.aes_cmac.specs.Cmac.{macWith}
-use Rattle.standard_path.specs.Mac.{macInput}
-use Rattle.standard_path.specs.Fields.{consDir, timestamp, expTime, consIngress, consEgress, macField, travelIngress, travelEgress, travelIngressAlert, travelEgressAlert, expiry}
-use Rattle.interface_table.specs.Table.{stateOf, linkType, pairAllowed}
+use Rattle.aes.specs.ByTable.{cipherBy}
+use Rattle.cmac.specs.Cmac.{macWith}
+use Rattle.hop_mac.specs.Mac.{macInput, hopMac}
+use Rattle.fields.specs.Fields.{consDir, timestamp, expTime, consIngress, consEgress, macField, travelIngress, travelEgress, travelIngressAlert, travelEgressAlert, expiry}
+use Rattle.interface_table.specs.Table.{stateOf, linkType, isUp, pairAllowed}
 use Rattle.interface_table.specs.declared.Listed.{Listed}
 use Rattle.interface_table.specs.declared.Listed.the-variants.{State, Nothing}
-use Rattle.validator.specs.Questions.{Questions}
-use Rattle.validator.specs.declared.check.StandardValidator.{StandardValidator}
-use Rattle.validator.specs.declared.answer.StandardRoutingError.{StandardRoutingError}
-use Rattle.validator.specs.declared.answer.StandardRoutingError.the-variants.{InvalidIngressInterface, InvalidEgressInterface, FutureTimestamp, SegmentExpired, UnknownIngressInterface, UnknownEgressInterface, InvalidMacError, InvalidSegmentChange, InvalidScmpAlert}
+use Rattle.answers.specs.Questions.{Questions}
+use Rattle.validator.specs.declared.StandardValidator.{StandardValidator}
+use Rattle.answers.specs.declared.StandardRoutingError.{StandardRoutingError}
+use Rattle.answers.specs.declared.StandardRoutingError.the-variants.{InvalidIngressInterface, InvalidEgressInterface, FutureTimestamp, SegmentExpired, UnknownIngressInterface, UnknownEgressInterface, InvalidMacError, InvalidSegmentChange, InvalidScmpAlert}
 
 -- the hop MAC under some key, of SegID, timestamp, ExpTime, ConsIngress and ConsEgress
 abbrev pub MacFunction : Type 0
 MacFunction = ℕ → ℕ → ℕ → ℕ → ℕ → List ℕ
 
+-- the hop MAC under a key
+abbrev pub keyMac : List ℕ → MacFunction
+keyMac key = λ segId start units ingress egress. hopMac segId start units ingress egress key
+
 -- what the code works out from a lent table, round keys and K1
 abbrev pub scheduleMac : List ℕ → List (List ℕ) → List ℕ → MacFunction
 scheduleMac table roundKeys k1 = λ segId start units ingress egress. take 6 (macWith (cipherBy table roundKeys) k1 (macInput segId start units ingress egress))
+
+-- where the checks are made: at ingress or egress, on which interface, when, and whether MACs are ignored
+abbrev pub atIngress : ℕ → ℕ → Bool → StandardValidator
+atIngress interface time ignored = record { ingress = true; «current_interface_id» = interface; time = time; «ignore_macs» = ignored }
+
+abbrev pub atEgress : ℕ → ℕ → Bool → StandardValidator
+atEgress interface time ignored = record { ingress = false; «current_interface_id» = interface; time = time; «ignore_macs» = ignored }
 
 -- a MAC of six bytes as a number
 unfoldable pub macNumber : List ℕ → ℕ
@@ -70,6 +81,10 @@ hopQuestions mac at index hop info segId = fieldQuestions at index hop info ++ m
 abbrev pub isListed : Listed → Bool
 isListed (State state) = true
 isListed Nothing = false
+
+abbrev pub isUpListed : Listed → Bool
+isUpListed (State state) = isUp state
+isUpListed Nothing = false
 
 -- the link type of a listed interface; where one is not listed, 14, 15 or the journey's leaving interface has said no already
 abbrev pub linkOf : Listed → ℕ

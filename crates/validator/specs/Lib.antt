@@ -1,4 +1,1 @@
-pub mod Answer
-pub mod Questions
 pub mod Check
-pub mod Scmp

@@ -1,8 +1,5 @@
 // Known answers of FIPS 197 and RFC 4493, and hop MACs that Python worked out, each on a line.
-use aes_cmac::aes;
-use aes_cmac::cmac;
 use libc::STDOUT_FILENO;
-use standard_path::mac;
 
 // The key of FIPS 197, appendices A.1 and B, and of RFC 4493, section 4.
 const KEY: [u8; 16] = *b"\x2b\x7e\x15\x16\x28\xae\xd2\xa6\xab\xf7\x15\x88\x09\xcf\x4f\x3c";
@@ -84,7 +81,7 @@ fn put_hop_mac(
     cons_ingress: u16,
     cons_egress: u16,
 ) {
-    let from_key = mac::calculate_hop_mac(
+    let from_key = hop_mac::calculate_hop_mac(
         segment_id,
         timestamp,
         exp_time,
@@ -95,7 +92,7 @@ fn put_hop_mac(
     put(label, &from_key);
     let table = aes::round_table();
     let round_keys = aes::expand_key(key);
-    let from_schedule = mac::calculate_hop_mac_with(
+    let from_schedule = hop_mac::calculate_hop_mac_with(
         &table,
         round_keys,
         cmac::subkey_with(&table, round_keys),
@@ -141,7 +138,7 @@ fn put_hop_macs() {
 fn put_beta_step(hop_mac: [u8; 6]) {
     io::write_all(STDOUT_FILENO, b"SegID 1234 after MAC ");
     put_hex(&hop_mac);
-    let next = mac::mac_beta_step(0x1234, hop_mac);
+    let next = hop_mac::mac_beta_step(0x1234, hop_mac);
     put(b"", &[(next / 0x100) as u8, (next % 0x100) as u8]);
 }
 

@@ -1,6 +1,6 @@
 use borrow.Author.Needs.{needs}
 use mathlib.Core.List.{[], _∷_}
-use Rattle.standard_path.proofs.HopMac.{hop-mac-from-schedule}
+use Rattle.hop_mac.proofs.HopMac.{hop-mac-from-schedule}
 use Rattle.bench_mac.proofs.bench_three_hop_macs.Statement.{statement}
 use Rattle.bench_mac.proofs.bench_three_hop_macs.Tie as tie
 

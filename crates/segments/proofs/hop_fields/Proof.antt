@@ -2,7 +2,7 @@ use borrow.Author.Needs.{needs}
 use Prim.Native.Nat.{ℕ, _*_}
 use mathlib.Core.Path.{ap, _∙_}
 use denote.Ref.{now}
-use Rattle.standard_path.specs.Layout.{hopOffset}
+use Rattle.fields.specs.Layout.{hopOffset}
 use Rattle.standard_path.proofs.Parts.{part-inside, part-short}
 use Rattle.segments.specs.Segments.{hopFields}
 use Rattle.segments.proofs.hop_fields.Statement.{statement}

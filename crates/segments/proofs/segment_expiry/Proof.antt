@@ -4,7 +4,7 @@ use Prim.Native.Nat.{_+_, _-_, _<_, min}
 use native.Mathlib.Omega.{arith}
 use denote.Ref.{now}
 use Rattle.octets.specs.Bytes.{tabulate}
-use Rattle.standard_path.specs.Fields.{expTime, expiry}
+use Rattle.fields.specs.Fields.{expTime, expiry}
 use Rattle.segments.specs.Segments.{hopExpiry, segmentExpiry}
 use Rattle.segments.proofs.Expiry.{Left, left-more, left-none, times-all, times-more, times-none, hop-time, expiry-least}
 use Rattle.segments.proofs.segment_expiry.Statement.{statement}

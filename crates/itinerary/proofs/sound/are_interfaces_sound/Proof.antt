@@ -1,8 +1,8 @@
 use borrow.Author.Needs.{needs}
 use native.Mathlib.Omega.{arith}
 use borrow.Author.Tests.{not-true, not-false}
-use Rattle.itinerary.specs.Layout.{narrow}
-use Rattle.itinerary.specs.Records.{firstInterfaceOf}
+use Rattle.records.specs.Layout.{narrow}
+use Rattle.records.specs.Records.{firstInterfaceOf}
 use Rattle.itinerary.proofs.Merge.{Merged, merged-start, merged-end, merged-out, merged-unsound, merged-found, merged-on, merged-skip}
 use Rattle.itinerary.proofs.sound.are_interfaces_sound.Statement.{statement}
 use Rattle.itinerary.proofs.sound.are_interfaces_sound.Tie as tie

@@ -2,11 +2,11 @@ use borrow.Author.Needs.{needs}
 use mathlib.Core.Path.{sym, _∙_}
 use native.Mathlib.Omega.{arith}
 use borrow.Author.Tests.{not-true, not-false}
-use Rattle.itinerary.specs.Layout.{narrow}
-use Rattle.itinerary.specs.Records.{firstStation}
+use Rattle.records.specs.Layout.{narrow}
+use Rattle.records.specs.Records.{firstStation}
 use Rattle.itinerary.specs.Itinerary.{stationSound}
 use Rattle.itinerary.proofs.Merge.{nexts-unsound}
-use Rattle.itinerary.proofs.Walks.{Asked, asked-end, asked-out, answered-no, answered-yes}
+use Rattle.records.proofs.Walks.{Asked, asked-end, asked-out, answered-no, answered-yes}
 use Rattle.itinerary.proofs.sound.are_stations_sound.Statement.{statement}
 use Rattle.itinerary.proofs.sound.are_stations_sound.Tie as tie
 

@@ -2,10 +2,10 @@ use borrow.Author.Needs.{needs}
 use Prim.Native.Nat.{_-_}
 use mathlib.Core.Path.{sym, _∙_}
 use native.Mathlib.Omega.{arith}
-use Rattle.itinerary.specs.Layout.{narrow, offset}
-use Rattle.itinerary.specs.Records.{bytesOf}
+use Rattle.records.specs.Layout.{narrow, offset}
+use Rattle.records.specs.Records.{bytesOf}
 use Rattle.itinerary.specs.Itinerary.{areZero}
-use Rattle.itinerary.proofs.Walks.{Zero, zero-none, zero-all, zero-no, zero-more}
+use Rattle.records.proofs.Walks.{Zero, zero-none, zero-all, zero-no, zero-more}
 use Rattle.itinerary.proofs.sound.are_zero.Statement.{statement}
 use Rattle.itinerary.proofs.sound.are_zero.Tie as tie
 

@@ -1,7 +1,7 @@
 use borrow.Author.Needs.{needs}
 use mathlib.Core.Path.{refl}
 use native.Mathlib.Omega.{arith}
-use Rattle.itinerary.specs.Layout.{narrow}
+use Rattle.records.specs.Layout.{narrow}
 use Rattle.itinerary.proofs.Merge.{Skipped, skipped-end, skipped-out, skipped-here, skipped-on}
 use Rattle.itinerary.proofs.sound.skip_below.Statement.{statement}
 use Rattle.itinerary.proofs.sound.skip_below.Tie as tie

@@ -1,5 +1,5 @@
 use borrow.Author.Needs.{needs}
-use Rattle.itinerary.specs.Layout.{narrow}
+use Rattle.records.specs.Layout.{narrow}
 use Rattle.itinerary.proofs.Stations.{none-arrives, first-arrives, later-arrive}
 use Rattle.itinerary.proofs.station.arrivals_fit.Statement.{statement}
 use Rattle.itinerary.proofs.station.arrivals_fit.Tie as tie

@@ -1,5 +1,5 @@
 use borrow.Author.Needs.{needs}
-use Rattle.itinerary.specs.Layout.{narrow}
+use Rattle.records.specs.Layout.{narrow}
 use Rattle.itinerary.proofs.Bound.{fits-asked}
 use Rattle.itinerary.proofs.station.fits.Statement.{statement}
 use Rattle.itinerary.proofs.station.fits.Tie as tie

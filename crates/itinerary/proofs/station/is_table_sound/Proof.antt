@@ -1,9 +1,9 @@
 use borrow.Author.Needs.{needs}
 use native.Mathlib.Omega.{arith}
-use Rattle.itinerary.specs.Layout.{narrow}
-use Rattle.itinerary.specs.Records.{firstInterfaceOf}
+use Rattle.records.specs.Layout.{narrow}
+use Rattle.records.specs.Records.{firstInterfaceOf}
 use Rattle.itinerary.specs.Itinerary.{stationWithin}
-use Rattle.itinerary.proofs.Walks.{Entered, entered-end, entered-out, entered-low, entered-state, entered-on}
+use Rattle.records.proofs.Walks.{Entered, entered-end, entered-out, entered-low, entered-state, entered-on}
 use Rattle.itinerary.proofs.station.is_table_sound.Statement.{statement}
 use Rattle.itinerary.proofs.station.is_table_sound.Tie as tie
 

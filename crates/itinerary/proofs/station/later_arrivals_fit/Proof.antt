@@ -4,9 +4,9 @@ use mathlib.Core.Bool.{not}
 use native.Mathlib.Omega.{arith}
 use lib.Dec.{eqb}
 use borrow.Author.Tests.{eq-eqb, ne-eqb}
-use Rattle.itinerary.specs.Layout.{narrow}
-use Rattle.itinerary.specs.Records.{arrivalOf}
-use Rattle.itinerary.proofs.Walks.{Asked, asked-end, asked-out, asked-no, asked-yes}
+use Rattle.records.specs.Layout.{narrow}
+use Rattle.records.specs.Records.{arrivalOf}
+use Rattle.records.proofs.Walks.{Asked, asked-end, asked-out, asked-no, asked-yes}
 use Rattle.itinerary.proofs.station.later_arrivals_fit.Statement.{statement}
 use Rattle.itinerary.proofs.station.later_arrivals_fit.Tie as tie
 

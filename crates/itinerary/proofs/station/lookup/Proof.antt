@@ -1,10 +1,10 @@
 use borrow.Author.Needs.{needs}
 use mathlib.Core.Path.{sym, _∙_}
 use native.Mathlib.Omega.{arith}
-use Rattle.itinerary.specs.Layout.{narrow}
-use Rattle.itinerary.specs.Records.{recordCount, firstInterfaceOf}
+use Rattle.records.specs.Layout.{narrow}
+use Rattle.records.specs.Records.{recordCount, firstInterfaceOf}
 use Rattle.itinerary.specs.Itinerary.{stationWithin}
-use Rattle.itinerary.proofs.Walks.{Sought, sought-end, sought-out, sought-here, sought-on}
+use Rattle.records.proofs.Walks.{Sought, sought-end, sought-out, sought-here, sought-on}
 use Rattle.itinerary.proofs.station.lookup.Statement.{statement}
 use Rattle.itinerary.proofs.station.lookup.Tie as tie
 

@@ -2,9 +2,9 @@ use borrow.Author.Needs.{needs}
 use Prim.Native.Nat.{_≤_}
 use mathlib.Core.Path.{sym}
 use native.Mathlib.Omega.{arith}
-use Rattle.itinerary.specs.Layout.{narrow}
-use Rattle.itinerary.specs.Records.{firstStation}
-use Rattle.itinerary.proofs.Walks.{Counted, counted-end, counted-out, counted-on}
+use Rattle.records.specs.Layout.{narrow}
+use Rattle.records.specs.Records.{firstStation}
+use Rattle.records.proofs.Walks.{Counted, counted-end, counted-out, counted-on}
 use Rattle.itinerary.proofs.station.station_count.Statement.{statement}
 use Rattle.itinerary.proofs.station.station_count.Tie as tie
 

@@ -2,9 +2,9 @@ use borrow.Author.Needs.{needs}
 use Prim.Native.Nat.{_-_}
 use mathlib.Core.Path.{_≡_}
 use native.Mathlib.Omega.{arith}
-use Rattle.itinerary.specs.Layout.{narrow}
-use Rattle.itinerary.specs.Records.{recordCount, firstStation}
-use Rattle.itinerary.proofs.Walks.{Passed, passed-end, passed-out, passed-here, passed-on}
+use Rattle.records.specs.Layout.{narrow}
+use Rattle.records.specs.Records.{recordCount, firstStation}
+use Rattle.records.proofs.Walks.{Passed, passed-end, passed-out, passed-here, passed-on}
 use Rattle.itinerary.proofs.station.station_record.Statement.{statement}
 use Rattle.itinerary.proofs.station.station_record.Tie as tie
 

@@ -2,7 +2,7 @@ use borrow.Author.Needs.{needs}
 use mathlib.Core.Path.{ap}
 use denote.Ref.{now}
 use Rattle.validator.specs.Check.{MacFunction, rightMac}
-use Rattle.routing.proofs.Steps.{schedule-law}
+use Rattle.validator.proofs.Schedule.{schedule-law}
 use Rattle.journey_check.proofs.hops.mac_fits.Statement.{statement}
 use Rattle.journey_check.proofs.hops.mac_fits.Tie as tie
 

@@ -1,7 +1,7 @@
 use borrow.Author.Needs.{needs}
 use mathlib.Core.Path.{sym, _∙_}
 use native.Mathlib.Omega.{arith}
-use Rattle.itinerary.specs.Layout.{narrow}
+use Rattle.records.specs.Layout.{narrow}
 use Rattle.journey.proofs.Lengths.{at-most-three}
 use Rattle.journey_check.proofs.Stations.{starts-behind, some-hops, joint-read, link-read}
 use Rattle.journey_check.proofs.joints.joint_passes.Statement.{statement}

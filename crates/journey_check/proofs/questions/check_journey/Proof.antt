@@ -1,6 +1,6 @@
 use borrow.Author.Needs.{needs}
 use mathlib.Core.Path.{sym, _∙_}
-use Rattle.itinerary.specs.Layout.{narrow}
+use Rattle.records.specs.Layout.{narrow}
 use Rattle.journey_check.proofs.Verdicts.{header-asked, meets-demand-3}
 use Rattle.journey_check.proofs.questions.check_journey.Statement.{statement}
 use Rattle.journey_check.proofs.questions.check_journey.Tie as tie

@@ -1,7 +1,7 @@
 use borrow.Author.Needs.{needs}
 use mathlib.Core.Bool.{not, _&&_}
 use Prim.Native.Nat.{_-_}
-use Rattle.standard_path.specs.Fields.{consIngressAlert, consEgressAlert}
+use Rattle.fields.specs.Fields.{consIngressAlert, consEgressAlert}
 use Rattle.standard_path.specs.Header.{hops, hopField}
 use Rattle.journey.specs.Verdict.{quiet}
 use Rattle.journey_check.proofs.All.{Asked, asked-none, asked-no, asked-yes, asked-all}

@@ -3,7 +3,7 @@ use mathlib.Core.Path.{_≡_, refl, _∙_, ap}
 use mathlib.Core.Logic.{⊎-elim}
 use Prim.Native.Nat.{_-_}
 use native.Mathlib.Omega.{arith}
-use Rattle.standard_path.specs.Fields.{consDir}
+use Rattle.fields.specs.Fields.{consDir}
 use Rattle.standard_path.specs.Header.{infoField}
 use Rattle.journey.specs.Check.{hopOf, peeringHopOf}
 use Rattle.journey_check.proofs.Walked.{chained-more}

@@ -2,7 +2,7 @@ use borrow.Author.Needs.{needs}
 use mathlib.Core.Path.{_≡_, _∙_, ap}
 use Prim.Native.Nat.{_+_, _-_}
 use native.Mathlib.Omega.{arith}
-use Rattle.standard_path.specs.Fields.{segId, timestamp}
+use Rattle.fields.specs.Fields.{segId, timestamp}
 use Rattle.journey_check.proofs.All.{asked-no, asked-yes, asked-all}
 use Rattle.journey_check.proofs.Walked.{Walked, walked-none, record-more, segment-early, segment-begun}
 use Rattle.journey_check.proofs.segments.segment_fits.Statement.{statement}

@@ -1,6 +1,6 @@
 use borrow.Author.Needs.{needs}
 use mathlib.Core.Path.{_∙_}
-use Rattle.itinerary.specs.Layout.{narrow}
+use Rattle.records.specs.Layout.{narrow}
 use Rattle.journey_check.proofs.Stations.{starts-behind, segment-read}
 use Rattle.journey_check.proofs.segments.segment_passes.Statement.{statement}
 use Rattle.journey_check.proofs.segments.segment_passes.Tie as tie

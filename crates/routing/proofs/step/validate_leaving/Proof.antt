@@ -1,5 +1,5 @@
 use borrow.Author.Needs.{needs}
-use Rattle.validator.specs.Questions.{firstNo}
+use Rattle.answers.specs.Questions.{firstNo}
 use Rattle.routing.proofs.step.validate_leaving.Statement.{statement}
 use Rattle.routing.proofs.step.validate_leaving.Tie as tie
 

@@ -1,7 +1,7 @@
 use borrow.Author.Needs.{needs}
 use mathlib.Core.Path.{ap₂, _∙_}
 use borrow.Author.Tests.{lt-leb, le-leb}
-use Rattle.standard_path.specs.Layout.{hopOffset}
+use Rattle.fields.specs.Layout.{hopOffset}
 use Rattle.standard_path.specs.Header.{headerSize, headerCheck}
 use Rattle.standard_path.proofs.view.check_header.Statement.{statement}
 use Rattle.standard_path.proofs.view.check_header.Tie as tie

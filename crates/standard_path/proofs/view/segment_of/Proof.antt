@@ -2,7 +2,7 @@ use borrow.Author.Needs.{needs}
 use Prim.Native.Nat.{_<_}
 use native.Mathlib.Omega.{arith}
 use borrow.Author.Tests.{lt-ltb, le-ltb}
-use Rattle.standard_path.specs.Layout.{hopCount}
+use Rattle.fields.specs.Layout.{hopCount}
 use Rattle.standard_path.specs.Header.{segmentAmong}
 use Rattle.standard_path.proofs.view.segment_of.Statement.{statement}
 use Rattle.standard_path.proofs.view.segment_of.Tie as tie

@@ -1,7 +1,7 @@
 use borrow.Author.Needs.{needs}
 use mathlib.Core.Path.{_∙_}
 use native.Mathlib.Omega.{arith}
-use Rattle.standard_path.specs.Fields.{setCurrHf}
+use Rattle.standard_path.specs.Meta.{setCurrHf}
 use Rattle.standard_path.proofs.view.set_curr_hop_field.Statement.{statement}
 use Rattle.standard_path.proofs.view.set_curr_hop_field.Tie as tie
 

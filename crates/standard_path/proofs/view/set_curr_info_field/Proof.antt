@@ -1,6 +1,6 @@
 use borrow.Author.Needs.{needs}
 use mathlib.Core.Path.{_∙_}
-use Rattle.standard_path.specs.Fields.{setCurrInf}
+use Rattle.standard_path.specs.Meta.{setCurrInf}
 use Rattle.standard_path.proofs.view.set_curr_info_field.Statement.{statement}
 use Rattle.standard_path.proofs.view.set_curr_info_field.Tie as tie
 

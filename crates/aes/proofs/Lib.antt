@@ -1,0 +1,3 @@
+pub mod WordBytes
+pub mod KeyWords
+pub mod FastCipher

@@ -1,6 +1,0 @@
-pub mod Block
-pub mod Cipher
-pub mod KeyExpansion
-pub mod Cmac
-pub mod Words
-pub mod ByTable

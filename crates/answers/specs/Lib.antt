@@ -1,0 +1,4 @@
+pub mod Answer
+pub mod Questions
+pub mod Outcome
+pub mod Scmp

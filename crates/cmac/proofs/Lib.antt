@@ -1,0 +1,2 @@
+pub mod CmacLaws
+pub mod Doubling

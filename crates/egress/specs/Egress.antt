@@ -1,0 +1,48 @@
+-- 01, 'Questions in order' and 'standard/routing.rs': the egress half, its answer and every byte that it leaves.
+-- Assumes nothing.
+use Prim.Native.Nat.{ℕ}
+use mathlib.Core.Bool.{Bool, not, _&&_, cond}
+use mathlib.Core.List.{List}
+use lib.Dec.{eqb}
+use Rattle.standard_path.specs.Meta.{currHf}
+use Rattle.fields.specs.Fields.{consDir, segId, travelEgress, travelEgressAlert}
+use Rattle.answers.specs.Questions.{Questions, firstNo}
+use Rattle.validator.specs.Check.{MacFunction, hopQuestions}
+use Rattle.validator.specs.declared.StandardValidator.{StandardValidator}
+use Rattle.answers.specs.declared.Validation.{Validation}
+use Rattle.answers.specs.declared.Validation.the-variants.{Valid, Invalid}
+use Rattle.answers.specs.declared.LocalAsRoutingAction.the-variants.{EgressSCMPHandleRequest}
+use Rattle.answers.specs.declared.AsRoutingAction.the-variants.{Local, ForwardNextHop}
+use Rattle.answers.specs.declared.StepAnswer.{StepAnswer}
+use Rattle.answers.specs.declared.StepAnswer.the-variants.{Action, Refused}
+use Rattle.edition.specs.declared.Edition.{Edition}
+use Rattle.answers.specs.Outcome.{Outcome, asks}
+use Rattle.place.specs.Place.{before, egressPlace, hop, info}
+use Rattle.moves.specs.Moves.{egressMove}
+
+-- 19, 10, 11, 12
+abbrev pub egressQuestions : MacFunction → StandardValidator → List ℕ → Questions
+egressQuestions mac at path = hopQuestions mac at (currHf path) (hop path) (info path) (segId (info path))
+
+-- of a hop and its info field: an alert is handled if its travel egress is not 0
+unfoldable pub leavingAction : List ℕ → List ℕ → StepAnswer
+leavingAction hop info =
+    let out = travelEgress (consDir info) hop in
+    cond (travelEgressAlert (consDir info) hop && not (eqb out 0))
+    (Action (Local (EgressSCMPHandleRequest out)))
+    (Action (ForwardNextHop out))
+
+abbrev pub egressAction : List ℕ → StepAnswer
+egressAction path = leavingAction (hop path) (info path)
+
+-- the action if every check passed, else the refusal
+abbrev pub decided : Validation → StepAnswer → StepAnswer
+decided Valid action = action
+decided (Invalid why) action = Refused why
+
+-- from 19 on the bytes are moved whatever is answered
+unfoldable pub egress : Edition → List ℕ → List ℕ → MacFunction → StandardValidator → List ℕ → Outcome StepAnswer
+egress edition ids states mac at path =
+    asks Refused (firstNo (before ids states path)) path
+    (asks Refused (firstNo (egressPlace edition path)) path
+    (record { answer = decided (firstNo (egressQuestions mac at path)) (egressAction path); bytes = egressMove edition path }))

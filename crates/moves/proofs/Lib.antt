@@ -1,0 +1,4 @@
+pub mod SegIdSet
+pub mod AlertCleared
+pub mod Touched
+pub mod Lent

@@ -1,0 +1,16 @@
+use borrow.Author.Needs.{needs}
+use borrow.Author.Needs.{needs}
+
+use Rattle.moves.proofs.takes_step.Statement.{statement}
+use Rattle.moves.proofs.takes_step.Tie as tie
+use Rattle.moves.proofs.takes_step.Reads as reads
+use Rattle.moves.proofs.takes_step.Lts as lts
+use Rattle.moves.proofs.is_stepped_direction.Reads as is-stepped-direction-reads
+use Rattle.place.proofs.is_peering_hop.Reads as is-peering-hop-reads
+
+returns : tie.Need-returns
+returns c = rw (← c .before .is-peering-hop .ensures, ← c .is-stepped-direction .ensures)
+
+pub takes-step-spec : {M : Type 1} → statement M
+takes-step-spec =
+    tie.close (tie.spec (λ c κs. search needs) (λ c κs. search needs) returns)

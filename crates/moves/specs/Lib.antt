@@ -1,0 +1,3 @@
+pub mod Writes
+pub mod Moves
+pub mod Inner

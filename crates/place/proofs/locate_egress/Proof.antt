@@ -1,0 +1,181 @@
+use borrow.Author.Needs.{needs}
+use mathlib.Core.Path.{_≡_, sym, _∙_}
+use mathlib.Core.Bool.{Bool, or-true}
+use mathlib.Core.List.{List}
+use Prim.Native.Nat.{ℕ, _<_}
+use borrow.Author.Tests.{lt-ltb, le-ltb, le-leb, lt-leb, eq-eqb, ne-eqb, not-true, not-false}
+use denote.Ref.{now}
+use Rattle.standard_path.specs.Meta.{currInf, currHf}
+use Rattle.standard_path.specs.Header.{infos}
+use Rattle.answers.specs.Questions.{firstNo}
+use Rattle.answers.specs.declared.Validation.the-variants.{Valid}
+use Rattle.answers.proofs.Asked.{goes-on}
+use Rattle.place.specs.Place.{placeQuestions}
+use Rattle.place.specs.Inner.{onwardBy, egressPlaceBy}
+use Rattle.place.proofs.Places.{Lies, lies, lies-nowhere}
+use Rattle.place.proofs.locate_egress.Statement.{statement}
+use Rattle.place.proofs.locate_egress.Tie as tie
+
+-- 5, 7 and 8 had a yes, by what was read
+stood : (path : List ℕ) {index actual count : ℕ} {start end : Bool} → Lies path (currHf path) index start end → actual ≡ currInf path
+    → count ≡ infos path → index ≡ actual → actual < count → firstNo (placeQuestions path) ≡ Valid
+unfolding firstNo
+stood path l a n e inside = rw (l .inside, l .segment, ← a, eq-eqb _ _ e, ← n, lt-ltb _ _ inside)
+
+-- and so the rest decides
+on : (path : List ℕ) (fits crossing : Bool) → firstNo (placeQuestions path) ≡ Valid
+    → firstNo (egressPlaceBy path fits crossing) ≡ firstNo (onwardBy path fits crossing)
+on path fits crossing here = goes-on (placeQuestions path) (onwardBy path fits crossing) here
+
+returns : tie.Need-returns
+unfolding firstNo
+returns c =
+    let args = c .before .before .before .before .before .before .before .before .args in
+    let curr-hop-field-idx = c .before .before .before .before .before .before .curr-hop-field-idx in
+    let calculate-segment-index = c .before .before .before .calculate-segment-index in
+    rw (lies-nowhere (now (args .path)) (currHf (now (args .path)))
+    (rw (curr-hop-field-idx .ensures) at (sym (calculate-segment-index .ensures) ∙ c .before .enum-told .given .1)))
+    (rw (curr-hop-field-idx .ensures) at (c .refused .ensures))
+
+returns-2 : tie.Need-returns-2
+unfolding firstNo
+returns-2 c =
+    let args = c .before .before .before .before .before .before .before .before .before .before .before .args in
+    let curr-hop-field-idx = c .before .before .before .before .before .before .before .before .before .curr-hop-field-idx in
+    let calculate-segment-index = c .before .before .before .before .before .before .calculate-segment-index in
+    let index = c .before .before .before .before .index in
+    let l = lies (now (args .path)) (currHf (now (args .path)))
+    (rw (curr-hop-field-idx .ensures) at (sym (calculate-segment-index .ensures) ∙ index .given .1)) in
+    rw (l .inside, l .segment, ← c .before .before .curr-info-field-idx .ensures, ne-eqb _ _ (c .before .if1 .taken)) (c .refused2 .ensures)
+
+returns-3 : tie.Need-returns-3
+unfolding firstNo
+returns-3 c =
+    let args = c .before .before .before .before .before .before .before .before .before .before .before .before .args in
+    let curr-hop-field-idx = c .before .before .before .before .before .before .before .before .before .before .curr-hop-field-idx in
+    let info-field-count = c .before .before .before .before .before .before .before .before .before .info-field-count in
+    let calculate-segment-index = c .before .before .before .before .before .before .before .calculate-segment-index in
+    let index = c .before .before .before .before .before .index in
+    let curr-info-field-idx = c .before .before .before .curr-info-field-idx in
+    let l = lies (now (args .path)) (currHf (now (args .path)))
+    (rw (curr-hop-field-idx .ensures) at (sym (calculate-segment-index .ensures) ∙ index .given .1)) in
+    rw (l .inside, l .segment, ← curr-info-field-idx .ensures, eq-eqb _ _ (c .before .before .if1 .left), ← info-field-count .ensures, le-ltb _ _ (c .before .if2 .taken))
+    (c .refused3 .ensures)
+
+returns-4 : tie.Need-returns-4
+unfolding firstNo
+returns-4 c =
+    let args = c .before .before .before .before .before .before .before .before .before .before .before .before .before .args in
+    let curr-hop-field-idx = c .before .before .before .before .before .before .before .before .before .before .before .curr-hop-field-idx in
+    let info-field-count = c .before .before .before .before .before .before .before .before .before .before .info-field-count in
+    let calculate-segment-index = c .before .before .before .before .before .before .before .before .calculate-segment-index in
+    let index = c .before .before .before .before .before .before .index in
+    let curr-info-field-idx = c .before .before .before .before .curr-info-field-idx in
+    let if1 = c .before .before .before .if1 in
+    let l = lies (now (args .path)) (currHf (now (args .path)))
+    (rw (curr-hop-field-idx .ensures) at (sym (calculate-segment-index .ensures) ∙ index .given .1)) in
+    let here = stood (now (args .path)) l (curr-info-field-idx .ensures) (info-field-count .ensures) (if1 .left) (c .before .before .if2 .left) in
+    rw (on (now (args .path)) (args .fits) (args .crossing) here, not-true (args .fits) (c .before .if3 .taken)) (c .refused4 .ensures)
+
+returns-5 : tie.Need-returns-5
+unfolding firstNo
+returns-5 c =
+    let args = c .before .before .before .before .before .before .before .before .before .before .before .before .before .before .args in
+    let curr-hop-field-idx = c .before .before .before .before .before .before .before .before .before .before .before .before .curr-hop-field-idx in
+    let info-field-count = c .before .before .before .before .before .before .before .before .before .before .before .info-field-count in
+    let hop-field-count = c .before .before .before .before .before .before .before .before .before .before .hop-field-count in
+    let calculate-segment-index = c .before .before .before .before .before .before .before .before .before .calculate-segment-index in
+    let index = c .before .before .before .before .before .before .before .index in
+    let curr-info-field-idx = c .before .before .before .before .before .curr-info-field-idx in
+    let if1 = c .before .before .before .before .if1 in
+    let if2 = c .before .before .before .if2 in
+    let l = lies (now (args .path)) (currHf (now (args .path)))
+    (rw (curr-hop-field-idx .ensures) at (sym (calculate-segment-index .ensures) ∙ index .given .1)) in
+    let here = stood (now (args .path)) l (curr-info-field-idx .ensures) (info-field-count .ensures) (if1 .left) (if2 .left) in
+    rw (on (now (args .path)) (args .fits) (args .crossing) here, not-false (args .fits) (c .before .before .if3 .left))
+    (rw (← hop-field-count .ensures, ← curr-hop-field-idx .ensures, le-leb _ _ (c .before .if4 .taken)) (c .refused5 .ensures))
+
+returns-6 : tie.Need-returns-6
+unfolding firstNo
+returns-6 c =
+    let args = c .before .before .before .before .before .before .before .before .before .before .before .before .before .before .before .before .args in
+    let curr-hop-field-idx = c .before .before .before .before .before .before .before .before .before .before .before .before .before .before .curr-hop-field-idx in
+    let info-field-count = c .before .before .before .before .before .before .before .before .before .before .before .before .before .info-field-count in
+    let hop-field-count = c .before .before .before .before .before .before .before .before .before .before .before .before .hop-field-count in
+    let calculate-segment-index = c .before .before .before .before .before .before .before .before .before .before .before .calculate-segment-index in
+    let index = c .before .before .before .before .before .before .before .before .before .index in
+    let curr-info-field-idx = c .before .before .before .before .before .before .before .curr-info-field-idx in
+    let if1 = c .before .before .before .before .before .before .if1 in
+    let if2 = c .before .before .before .before .before .if2 in
+    let if3 = c .before .before .before .before .if3 in
+    let if4 = c .before .before .before .if4 in
+    let l = lies (now (args .path)) (currHf (now (args .path)))
+    (rw (curr-hop-field-idx .ensures) at (sym (calculate-segment-index .ensures) ∙ index .given .1)) in
+    let here = stood (now (args .path)) l (curr-info-field-idx .ensures) (info-field-count .ensures) (if1 .left) (if2 .left) in
+    rw (on (now (args .path)) (args .fits) (args .crossing) here, not-false (args .fits) (if3 .left))
+    (rw (l .segment, l .last, c .before .before .if5 .taken, not-true (args .crossing) (c .before .if6 .taken), ← hop-field-count .ensures, ← curr-hop-field-idx .ensures, lt-leb _ _ (if4 .left)) (c .refused6 .ensures))
+
+returns-7 : tie.Need-returns-7
+unfolding firstNo
+returns-7 c =
+    let args = c .before .before .before .before .before .before .before .before .before .before .before .before .before .before .before .args in
+    let curr-hop-field-idx = c .before .before .before .before .before .before .before .before .before .before .before .before .before .curr-hop-field-idx in
+    let info-field-count = c .before .before .before .before .before .before .before .before .before .before .before .before .info-field-count in
+    let hop-field-count = c .before .before .before .before .before .before .before .before .before .before .before .hop-field-count in
+    let calculate-segment-index = c .before .before .before .before .before .before .before .before .before .before .calculate-segment-index in
+    let index = c .before .before .before .before .before .before .before .before .index in
+    let curr-info-field-idx = c .before .before .before .before .before .before .curr-info-field-idx in
+    let if1 = c .before .before .before .before .before .if1 in
+    let if2 = c .before .before .before .before .if2 in
+    let if3 = c .before .before .before .if3 in
+    let l = lies (now (args .path)) (currHf (now (args .path)))
+    (rw (curr-hop-field-idx .ensures) at (sym (calculate-segment-index .ensures) ∙ index .given .1)) in
+    let here = stood (now (args .path)) l (curr-info-field-idx .ensures) (info-field-count .ensures) (if1 .left) (if2 .left) in
+    rw (on (now (args .path)) (args .fits) (args .crossing) here, not-false (args .fits) (if3 .left))
+    (rw (not-false (args .crossing) (c .if6 .left), ← hop-field-count .ensures, ← curr-hop-field-idx .ensures, lt-leb _ _ (c .before .before .if4 .left)))
+
+returns-8 : tie.Need-returns-8
+unfolding firstNo
+returns-8 c =
+    let args = c .before .before .before .before .before .before .before .before .before .before .before .before .before .before .args in
+    let curr-hop-field-idx = c .before .before .before .before .before .before .before .before .before .before .before .before .curr-hop-field-idx in
+    let info-field-count = c .before .before .before .before .before .before .before .before .before .before .before .info-field-count in
+    let hop-field-count = c .before .before .before .before .before .before .before .before .before .before .hop-field-count in
+    let calculate-segment-index = c .before .before .before .before .before .before .before .before .before .calculate-segment-index in
+    let index = c .before .before .before .before .before .before .before .index in
+    let curr-info-field-idx = c .before .before .before .before .before .curr-info-field-idx in
+    let if1 = c .before .before .before .before .if1 in
+    let if2 = c .before .before .before .if2 in
+    let l = lies (now (args .path)) (currHf (now (args .path)))
+    (rw (curr-hop-field-idx .ensures) at (sym (calculate-segment-index .ensures) ∙ index .given .1)) in
+    let here = stood (now (args .path)) l (curr-info-field-idx .ensures) (info-field-count .ensures) (if1 .left) (if2 .left) in
+    rw (on (now (args .path)) (args .fits) (args .crossing) here, not-false (args .fits) (c .before .before .if3 .left))
+    (rw (l .segment, l .last, c .if5 .left, or-true (args .crossing), ← hop-field-count .ensures, ← curr-hop-field-idx .ensures, lt-leb _ _ (c .before .if4 .left)))
+
+pub locate-egress-spec : {M : Type 1} → statement M
+locate-egress-spec =
+    tie.close
+    (tie.spec
+    (λ c κs. search needs)
+    (λ c κs. search needs)
+    (λ c κs. search needs)
+    (λ c κs. search needs)
+    (λ c. search needs)
+    (λ c. search needs)
+    (λ c κs. search needs)
+    returns
+    (λ c κs. search needs)
+    (λ c κs. search needs)
+    returns-2
+    (λ c κs. search needs)
+    returns-3
+    (λ c κs. search needs)
+    returns-4
+    (λ c. search needs)
+    (λ c. search needs)
+    (λ c κs. search needs)
+    returns-5
+    (λ c κs. search needs)
+    returns-6
+    returns-7
+    returns-8)

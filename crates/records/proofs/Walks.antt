@@ -1,0 +1,244 @@
+-- What the loops owe that go along a chain, or along the bytes of a record. A walk along a chain may take `left` records more and stands
+-- at `index`; `limit` and `first` are where it began.
+-- Assumes nothing.
+use mathlib.Core.Path.{_≡_, refl, ap, sym, _∙_}
+use mathlib.Core.Bool.{Bool, true, false, not, _&&_, and-false}
+use mathlib.Core.List.{List, [], _∷_, map}
+use Prim.Native.Nat.{ℕ, zero, suc, _+_, _-_, _≤_, _<_}
+use native.Mathlib.Numerals.{add-one}
+use native.Mathlib.Omega.{arith}
+use borrow.Author.Tests.{not-true, not-false, eq-eqb, ne-eqb, lt-ltb, le-ltb, le-leb, lt-leb}
+use lib.Dec.{eqb, leb}
+use lib.ListN.{length, getD, length-map}
+use Rattle.octets.specs.Bytes.{tabulate}
+use Rattle.interface_table.specs.Table.{tableSound, stateOf}
+use Rattle.interface_table.specs.declared.Listed.{Listed}
+use Rattle.interface_table.specs.declared.Listed.the-variants.{State, Nothing}
+use Rattle.interface_table.proofs.Entries.{entriesSound, sound-by-entries}
+use Rattle.records.specs.Layout.{Layout}
+use Rattle.records.specs.Records.{every, nextOf, interfaceNumberOf, interfaceStateOf, chain}
+
+-- ---- a chain, taken apart
+
+module _ (layout : Layout) (itinerary : List ℕ) where
+  pub chain-end : (left index : ℕ) → index ≡ 0 → chain layout itinerary left index ≡ []
+  unfolding chain
+  chain-end zero index e = refl
+  chain-end (suc left) index e = rw (eq-eqb index 0 e)
+
+  pub chain-out : (left index : ℕ) → left ≡ 0 → chain layout itinerary left index ≡ []
+  unfolding chain
+  chain-out left index e = rw e
+
+  pub chain-on : (left index next : ℕ) → 0 < left → (index ≡ 0 → ⊥) → next ≡ nextOf layout itinerary index
+      → chain layout itinerary left index ≡ index ∷ chain layout itinerary (left - 1) next
+  unfolding chain
+  chain-on zero index next h n e = absurd (omega arith)
+  chain-on (suc left) index next h n e = let d : suc left - 1 ≡ left = omega arith in rw (ne-eqb index 0 n, d, e)
+
+-- ---- each record of a chain is asked
+
+pub record Asked (layout : Layout) (itinerary : List ℕ) (holds : ℕ → Bool) (limit first left index : ℕ) : Type 0 where
+  pub rest : every holds (chain layout itinerary limit first) ≡ every holds (chain layout itinerary left index)
+
+module _ {layout : Layout} {itinerary : List ℕ} {holds : ℕ → Bool} {limit first left index : ℕ}
+    (asked : Asked layout itinerary holds limit first left index) where
+  pub asked-end : index ≡ 0 → true ≡ every holds (chain layout itinerary limit first)
+  unfolding every
+  asked-end e = sym (asked .rest ∙ rw (chain-end layout itinerary left index e))
+
+  pub asked-out : left ≡ 0 → true ≡ every holds (chain layout itinerary limit first)
+  unfolding every
+  asked-out e = sym (asked .rest ∙ rw (chain-out layout itinerary left index e))
+
+  pub asked-no : 0 < left → (index ≡ 0 → ⊥) → holds index ≡ false → false ≡ every holds (chain layout itinerary limit first)
+  unfolding every
+  asked-no h n e = sym (asked .rest ∙ rw (chain-on layout itinerary left index _ h n refl, e))
+
+  pub asked-yes : {next : ℕ} → 0 < left → (index ≡ 0 → ⊥) → holds index ≡ true → next ≡ nextOf layout itinerary index
+      → Asked layout itinerary holds limit first (left - 1) next
+  unfolding every
+  asked-yes {next} h n e q = record { rest = asked .rest ∙ rw (chain-on layout itinerary left index next h n q, e) }
+
+  -- the answer of a call
+  module _ {answer : Bool} (more : 0 < left) (here : index ≡ 0 → ⊥) (e : answer ≡ holds index) where
+    pub answered-no : not answer ≡ true → false ≡ every holds (chain layout itinerary limit first)
+    answered-no h = asked-no more here (sym e ∙ not-true answer h)
+
+    pub answered-yes : {next : ℕ} → not answer ≡ false → next ≡ nextOf layout itinerary index
+        → Asked layout itinerary holds limit first (left - 1) next
+    answered-yes h q = asked-yes more here (sym e ∙ not-false answer h) q
+
+-- ---- the records of a chain are counted
+
+pub record Counted (layout : Layout) (itinerary : List ℕ) (limit first left index : ℕ) : Type 0 where
+  pub rest : length (chain layout itinerary limit first) + left ≡ limit + length (chain layout itinerary left index)
+
+module _ {layout : Layout} {itinerary : List ℕ} {limit first left index : ℕ}
+    (counted : Counted layout itinerary limit first left index) where
+  pub counted-end : index ≡ 0 → length (chain layout itinerary limit first) + left ≡ limit
+  counted-end e =
+      let none : length (chain layout itinerary left index) ≡ 0 = rw (chain-end layout itinerary left index e) in
+      omega (arith, counted .rest)
+
+  pub counted-out : left ≡ 0 → length (chain layout itinerary limit first) ≡ limit
+  counted-out e =
+      let none : length (chain layout itinerary left index) ≡ 0 = rw (chain-out layout itinerary left index e) in
+      omega (arith, counted .rest)
+
+  pub counted-on : {next : ℕ} → 0 < left → (index ≡ 0 → ⊥) → next ≡ nextOf layout itinerary index
+      → Counted layout itinerary limit first (left - 1) next
+  counted-on {next} h n q =
+      let longer = ap length (chain-on layout itinerary left index next h n q) in
+      record { rest = omega (arith, counted .rest, longer) }
+
+-- ---- the first record of a table with the number wanted
+
+module _ (layout : Layout) (itinerary : List ℕ) where
+  abbrev listed : List ℕ → ℕ → Listed
+  listed records wanted =
+      stateOf (map (interfaceNumberOf layout itinerary) records) (map (interfaceStateOf layout itinerary) records) wanted
+
+pub record Sought (layout : Layout) (itinerary : List ℕ) (wanted limit first left index : ℕ) : Type 0 where
+  pub rest : listed layout itinerary (chain layout itinerary limit first) wanted
+      ≡ listed layout itinerary (chain layout itinerary left index) wanted
+
+module _ {layout : Layout} {itinerary : List ℕ} {wanted limit first left index : ℕ}
+    (sought : Sought layout itinerary wanted limit first left index) where
+  pub sought-end : index ≡ 0 → Nothing ≡ listed layout itinerary (chain layout itinerary limit first) wanted
+  unfolding stateOf
+  sought-end e = sym (sought .rest ∙ rw (chain-end layout itinerary left index e))
+
+  pub sought-out : left ≡ 0 → Nothing ≡ listed layout itinerary (chain layout itinerary limit first) wanted
+  unfolding stateOf
+  sought-out e = sym (sought .rest ∙ rw (chain-out layout itinerary left index e))
+
+  pub sought-here : 0 < left → (index ≡ 0 → ⊥) → interfaceNumberOf layout itinerary index ≡ wanted
+      → State (interfaceStateOf layout itinerary index) ≡ listed layout itinerary (chain layout itinerary limit first) wanted
+  unfolding stateOf
+  sought-here h n e =
+      sym (sought .rest ∙ rw (chain-on layout itinerary left index _ h n refl, eq-eqb (interfaceNumberOf layout itinerary index) wanted e))
+
+  pub sought-on : {next : ℕ} → 0 < left → (index ≡ 0 → ⊥) → (interfaceNumberOf layout itinerary index ≡ wanted → ⊥)
+      → next ≡ nextOf layout itinerary index → Sought layout itinerary wanted limit first (left - 1) next
+  unfolding stateOf
+  sought-on {next} h n e q =
+      record {
+        rest = sought .rest
+            ∙ rw (chain-on layout itinerary left index next h n q, ne-eqb (interfaceNumberOf layout itinerary index) wanted e);
+      }
+
+-- ---- a table is asked in one pass: each number is at least the lowest still allowed
+
+module _ (layout : Layout) (itinerary : List ℕ) where
+  abbrev entriesFrom : ℕ → List ℕ → Bool
+  entriesFrom lowest records =
+      entriesSound lowest (map (interfaceNumberOf layout itinerary) records) (map (interfaceStateOf layout itinerary) records)
+
+  abbrev soundTable : List ℕ → Bool
+  soundTable records = tableSound (map (interfaceNumberOf layout itinerary) records) (map (interfaceStateOf layout itinerary) records)
+
+pub record Entered (layout : Layout) (itinerary : List ℕ) (first lowest left index : ℕ) : Type 0 where
+  pub rest : entriesFrom layout itinerary 0 (chain layout itinerary 257 first)
+      ≡ entriesFrom layout itinerary lowest (chain layout itinerary left index)
+  pub counted : Counted layout itinerary 257 first left index
+
+module _ {layout : Layout} {itinerary : List ℕ} {first lowest left index : ℕ}
+    (entered : Entered layout itinerary first lowest left index) where
+  by-entries : soundTable layout itinerary (chain layout itinerary 257 first)
+      ≡ (leb (length (chain layout itinerary 257 first)) 256 && entriesFrom layout itinerary lowest (chain layout itinerary left index))
+  by-entries =
+      sound-by-entries (map (interfaceNumberOf layout itinerary) (chain layout itinerary 257 first))
+      (map (interfaceStateOf layout itinerary) (chain layout itinerary 257 first))
+      ∙ rw (length-map, entered .rest)
+
+  unsound : entriesFrom layout itinerary lowest (chain layout itinerary left index) ≡ false
+      → false ≡ soundTable layout itinerary (chain layout itinerary 257 first)
+  unsound e = sym (by-entries ∙ rw (e, and-false))
+
+  pub entered-end : 0 < left → index ≡ 0 → true ≡ soundTable layout itinerary (chain layout itinerary 257 first)
+  unfolding entriesSound
+  entered-end h e =
+      let few : length (chain layout itinerary 257 first) ≤ 256 = omega (arith, counted-end (entered .counted) e) in
+      sym (by-entries ∙ rw (le-leb _ 256 few, chain-end layout itinerary left index e))
+
+  pub entered-out : left ≡ 0 → false ≡ soundTable layout itinerary (chain layout itinerary 257 first)
+  entered-out e =
+      let many : 256 < length (chain layout itinerary 257 first) = omega (arith, counted-out (entered .counted) e) in
+      sym (by-entries ∙ rw (lt-leb _ 256 many))
+
+  module _ (more : 0 < left) (here : index ≡ 0 → ⊥) where
+    pub entered-low : interfaceNumberOf layout itinerary index < lowest
+        → false ≡ soundTable layout itinerary (chain layout itinerary 257 first)
+    unfolding entriesSound
+    entered-low h = unsound (rw (chain-on layout itinerary left index _ more here refl, lt-leb lowest _ h))
+
+    module _ (high : lowest ≤ interfaceNumberOf layout itinerary index) where
+      pub entered-state : 8 ≤ interfaceStateOf layout itinerary index
+          → false ≡ soundTable layout itinerary (chain layout itinerary 257 first)
+      unfolding entriesSound
+      entered-state h =
+          unsound (rw (chain-on layout itinerary left index _ more here refl, le-leb lowest _ high, le-ltb _ 8 h))
+
+      pub entered-on : {number next : ℕ} → interfaceStateOf layout itinerary index < 8 → number ≡ interfaceNumberOf layout itinerary index
+          → next ≡ nextOf layout itinerary index → Entered layout itinerary first (number + 1) (left - 1) next
+      unfolding entriesSound
+      entered-on {number} {next} h e q =
+          record {
+            rest = entered .rest ∙ rw (chain-on layout itinerary left index next more here q, le-leb lowest _ high, lt-ltb _ 8 h, e);
+            counted = counted-on (entered .counted) more here q;
+          }
+
+-- ---- a station is sought by its place: so many were passed
+
+pub record Passed (layout : Layout) (itinerary : List ℕ) (place limit first passed left index : ℕ) : Type 0 where
+  pub fewer : passed ≤ place
+  pub rest : getD (chain layout itinerary limit first) place 0 ≡ getD (chain layout itinerary left index) (place - passed) 0
+
+module _ {layout : Layout} {itinerary : List ℕ} {place limit first passed left index : ℕ}
+    (walked : Passed layout itinerary place limit first passed left index) where
+  pub passed-end : index ≡ 0 → 0 ≡ getD (chain layout itinerary limit first) place 0
+  passed-end e = sym (walked .rest ∙ rw (chain-end layout itinerary left index e))
+
+  pub passed-out : left ≡ 0 → 0 ≡ getD (chain layout itinerary limit first) place 0
+  passed-out e = sym (walked .rest ∙ rw (chain-out layout itinerary left index e))
+
+  pub passed-here : 0 < left → (index ≡ 0 → ⊥) → passed ≡ place → index ≡ getD (chain layout itinerary limit first) place 0
+  passed-here h n e =
+      let d : place - passed ≡ 0 = omega arith in
+      sym (walked .rest ∙ rw (d, chain-on layout itinerary left index _ h n refl))
+
+  pub passed-on : {next : ℕ} → 0 < left → (index ≡ 0 → ⊥) → (passed ≡ place → ⊥) → next ≡ nextOf layout itinerary index
+      → Passed layout itinerary place limit first (passed + 1) (left - 1) next
+  passed-on {next} h n e q =
+      let f : passed ≤ place = walked .fewer in
+      let d : place - passed ≡ suc (place - (passed + 1)) = omega arith in
+      record { fewer = omega arith; rest = walked .rest ∙ rw (d, chain-on layout itinerary left index next h n q) }
+
+-- ---- each byte of a range is asked whether it is zero: `i` of them have been
+
+pub record Zero (itinerary : List ℕ) (at count i : ℕ) : Type 0 where
+  pub within : i ≤ count
+  pub rest : every (λ byte. eqb byte 0) (tabulate count 0 (λ k. getD itinerary (at + k) 0))
+      ≡ every (λ byte. eqb byte 0) (tabulate (count - i) i (λ k. getD itinerary (at + k) 0))
+
+pub zero-none : (itinerary : List ℕ) (at count : ℕ) → Zero itinerary at count 0
+zero-none itinerary at count = let e : count - 0 ≡ count = omega arith in record { within = omega arith; rest = rw e }
+
+module _ {itinerary : List ℕ} {at count i : ℕ} (zeros : Zero itinerary at count i) where
+  pub zero-all : count ≤ i → true ≡ every (λ byte. eqb byte 0) (tabulate count 0 (λ k. getD itinerary (at + k) 0))
+  unfolding every
+  zero-all h = let e : count - i ≡ 0 = omega arith in sym (zeros .rest ∙ rw e)
+
+  module _ (h : i < count) where
+    one-less : count - i ≡ suc (count - (i + 1))
+    one-less = omega arith
+
+    pub zero-no : (getD itinerary (at + i) 0 ≡ 0 → ⊥)
+        → false ≡ every (λ byte. eqb byte 0) (tabulate count 0 (λ k. getD itinerary (at + k) 0))
+    unfolding every
+    zero-no n = sym (zeros .rest ∙ rw (one-less, ne-eqb _ 0 n))
+
+    pub zero-more : getD itinerary (at + i) 0 ≡ 0 → Zero itinerary at count (i + 1)
+    unfolding every
+    zero-more e = record { within = omega arith; rest = zeros .rest ∙ rw (one-less, eq-eqb _ 0 e, add-one i) }

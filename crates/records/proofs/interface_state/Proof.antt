@@ -1,0 +1,11 @@
+use borrow.Author.Needs.{needs}
+use Rattle.records.specs.Records.{interfaceStateOf}
+use Rattle.records.proofs.interface_state.Statement.{statement}
+use Rattle.records.proofs.interface_state.Tie as tie
+
+returns : tie.Need-returns
+unfolding interfaceStateOf
+returns c = cc
+
+pub interface-state-spec : {M : Type 1} → statement M
+interface-state-spec = tie.close (tie.spec (λ c κs. search needs) (λ c κs. search needs) returns)

@@ -1,0 +1,56 @@
+-- 01, 'Journey check (added)': an itinerary's records, one by one and along their chains. A byte past the end counts as 0.
+-- Assumes nothing.
+use Prim.Native.Nat.{ℕ, zero, suc, _+_, _/_}
+use mathlib.Core.Bool.{Bool, true, cond, _&&_}
+use mathlib.Core.List.{List, [], _∷_}
+use lib.Dec.{eqb, ltb}
+use lib.ListN.{length, getD}
+use Rattle.octets.specs.Bytes.{tabulate, be16At}
+use Rattle.records.specs.Layout.{Layout, offset}
+
+unfoldable pub every : {A : Type 0} → (A → Bool) → List A → Bool
+every holds [] = true
+every holds (x ∷ xs) = holds x && every holds xs
+
+-- for the contract of an inner function: without the numbers in front that are below a bound
+unfoldable pub dropBelow : ℕ → List ℕ → List ℕ
+dropBelow bound [] = []
+dropBelow bound (x ∷ xs) = cond (ltb x bound) (dropBelow bound xs) (x ∷ xs)
+
+module _ (layout : Layout) (itinerary : List ℕ) where
+  unfoldable pub recordCount : ℕ
+  recordCount = length itinerary / layout .recordBytes
+
+  -- some bytes of a record, from a field on
+  unfoldable pub bytesOf : ℕ → ℕ → ℕ → List ℕ
+  bytesOf index field count = tabulate count 0 (λ i. getD itinerary (offset layout index field + i) 0)
+
+  -- ---- the fields
+
+  unfoldable pub nextOf : ℕ → ℕ
+  nextOf index = layout .indexAt itinerary (offset layout index 0)
+
+  unfoldable pub arrivalOf : ℕ → ℕ
+  arrivalOf index = be16At itinerary (offset layout index (layout .arrival))
+
+  unfoldable pub firstInterfaceOf : ℕ → ℕ
+  firstInterfaceOf index = layout .indexAt itinerary (offset layout index (layout .firstInterface))
+
+  unfoldable pub keyOf : ℕ → List ℕ
+  keyOf index = bytesOf index (layout .key) 16
+
+  unfoldable pub interfaceNumberOf : ℕ → ℕ
+  interfaceNumberOf index = be16At itinerary (offset layout index (layout .number))
+
+  unfoldable pub interfaceStateOf : ℕ → ℕ
+  interfaceStateOf index = getD itinerary (offset layout index (layout .state)) 0
+
+  -- ---- chains
+
+  abbrev pub firstStation : ℕ
+  firstStation = nextOf 0
+
+  -- 'chained by a next index, zero ends the chain'; no more of it than the limit
+  unfoldable pub chain : ℕ → ℕ → List ℕ
+  chain zero index = []
+  chain (suc limit) index = cond (eqb index 0) [] (index ∷ chain limit (nextOf index))

@@ -1,9 +1,0 @@
-use borrow.Author.Needs.{needs}
-use Rattle.routing.proofs.place.crosses.Statement.{statement}
-use Rattle.routing.proofs.place.crosses.Tie as tie
-
-returns : tie.Need-returns
-returns c = rw (c .before .curr-hop-field-idx .ensures) at (c .is-first-peering-hop .ensures)
-
-pub crosses-spec : {M : Type 1} → statement M
-crosses-spec = tie.close (tie.spec (λ c κs. search needs) (λ c κs. search needs) returns)

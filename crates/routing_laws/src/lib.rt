@@ -1,0 +1,1 @@
+// Theorems about the forwarding step, in proofs/. There is no code.
