@@ -1,13 +1,18 @@
--- 01, 'Questions in order': the number of each refusal, and the values that it carries, in 01's order.
+-- 01, 'Questions in order': the number of each refusal, and the values that it carries, in 01's order; and those of an action.
 -- Assumes nothing.
 use Prim.Native.Nat.{ℕ}
 use mathlib.Core.Bool.{Bool, true, false}
 use mathlib.Core.List.{List, [], _∷_}
 use lib.ListN.{getD}
+use Rattle.standard_path.specs.Header.{headerNumber}
 use Rattle.answers.specs.declared.AdvanceError.{AdvanceError}
 use Rattle.answers.specs.declared.AdvanceError.the-variants.{HopOutOfBounds, InfoOutOfBounds, InvalidSegmentIndex, SingleHopSegment, SegmentEnd, MisplacedPeering}
+use Rattle.answers.specs.declared.LocalAsRoutingAction.{LocalAsRoutingAction}
+use Rattle.answers.specs.declared.LocalAsRoutingAction.the-variants.{IngressSCMPHandleRequest, EgressSCMPHandleRequest, ForwardLocal}
+use Rattle.answers.specs.declared.AsRoutingAction.{AsRoutingAction}
+use Rattle.answers.specs.declared.AsRoutingAction.the-variants.{Local, ForwardNextHop}
 use Rattle.answers.specs.declared.StandardRoutingError.{StandardRoutingError}
-use Rattle.answers.specs.declared.StandardRoutingError.the-variants.{UnsoundTable, MetaTooShort, DataTooShort, TooManyHops, AdvanceFailed, InvalidIngressInterface, InvalidEgressInterface, FutureTimestamp, SegmentExpired, UnknownIngressInterface, UnknownEgressInterface, InvalidMacError, InvalidSegmentChange, EgressInterfaceDown, InvalidScmpAlert}
+use Rattle.answers.specs.declared.StandardRoutingError.the-variants.{UnsoundTable, HeaderFailed, AdvanceFailed, InvalidIngressInterface, InvalidEgressInterface, FutureTimestamp, SegmentExpired, UnknownIngressInterface, UnknownEgressInterface, InvalidMacError, InvalidSegmentChange, EgressInterfaceDown, InvalidScmpAlert}
 
 abbrev pub advanceNumber : AdvanceError → ℕ
 advanceNumber (HopOutOfBounds index) = 5
@@ -19,9 +24,7 @@ advanceNumber MisplacedPeering = 28
 
 abbrev pub refusalNumber : StandardRoutingError → ℕ
 refusalNumber UnsoundTable = 1
-refusalNumber MetaTooShort = 2
-refusalNumber DataTooShort = 3
-refusalNumber TooManyHops = 4
+refusalNumber (HeaderFailed error) = headerNumber error
 refusalNumber (AdvanceFailed why) = advanceNumber why
 refusalNumber (InvalidIngressInterface hop expected found c) = 9
 refusalNumber (FutureTimestamp hop) = 10
@@ -49,9 +52,7 @@ advanceValues MisplacedPeering = []
 
 abbrev pub refusalValues : StandardRoutingError → List ℕ
 refusalValues UnsoundTable = []
-refusalValues MetaTooShort = []
-refusalValues DataTooShort = []
-refusalValues TooManyHops = []
+refusalValues (HeaderFailed error) = []
 refusalValues (AdvanceFailed why) = advanceValues why
 refusalValues (InvalidIngressInterface hop expected found c) = hop ∷ expected ∷ found ∷ flag c ∷ []
 refusalValues (FutureTimestamp hop) = hop ∷ []
@@ -67,3 +68,23 @@ refusalValues (InvalidEgressInterface hop expected found c) = hop ∷ expected �
 -- values in four places, 0 in those behind the last
 abbrev pub fourValues : List ℕ → List ℕ
 fourValues values = getD values 0 0 ∷ getD values 1 0 ∷ getD values 2 0 ∷ getD values 3 0 ∷ []
+
+-- ---- what is done with a packet: 01 has no numbers for it, here they are those from 101 on
+
+abbrev pub localNumber : LocalAsRoutingAction → ℕ
+localNumber ForwardLocal = 102
+localNumber (IngressSCMPHandleRequest interface) = 103
+localNumber (EgressSCMPHandleRequest interface) = 104
+
+abbrev pub actionNumber : AsRoutingAction → ℕ
+actionNumber (ForwardNextHop interface) = 101
+actionNumber (Local action) = localNumber action
+
+abbrev pub localValues : LocalAsRoutingAction → List ℕ
+localValues ForwardLocal = []
+localValues (IngressSCMPHandleRequest interface) = interface ∷ []
+localValues (EgressSCMPHandleRequest interface) = interface ∷ []
+
+abbrev pub actionValues : AsRoutingAction → List ℕ
+actionValues (ForwardNextHop interface) = interface ∷ []
+actionValues (Local action) = localValues action

@@ -3,14 +3,11 @@
 use mathlib.Core.List.{List}
 use Prim.Native.Nat.{ℕ}
 use Rattle.answers.specs.declared.StandardRoutingError.{StandardRoutingError}
-use Rattle.answers.specs.declared.Validation.{Validation}
-use Rattle.answers.specs.declared.Validation.the-variants.{Valid, Invalid}
 
 pub record Outcome (A : Type 0) : Type 0 where
   pub answer : A
   pub bytes : List ℕ
 
--- ends at a no, with the bytes given
-abbrev pub asks : {A : Type 0} → (StandardRoutingError → A) → Validation → List ℕ → Outcome A → Outcome A
-asks refuse Valid left more = more
-asks refuse (Invalid why) left more = record { answer = refuse why; bytes = left }
+-- a refusal that leaves these bytes
+abbrev pub leaves : {A : Type 0} → (StandardRoutingError → A) → List ℕ → StandardRoutingError → Outcome A
+leaves refuse left why = record { answer = refuse why; bytes = left }

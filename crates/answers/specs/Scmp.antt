@@ -4,7 +4,7 @@ use Prim.Native.Nat.{ℕ}
 use mathlib.Core.Bool.{Bool, not, cond}
 use mathlib.Core.List.{List, [], _∷_}
 use Rattle.answers.specs.declared.StandardRoutingError.{StandardRoutingError}
-use Rattle.answers.specs.declared.StandardRoutingError.the-variants.{UnsoundTable, MetaTooShort, DataTooShort, TooManyHops, AdvanceFailed, InvalidIngressInterface, InvalidEgressInterface, FutureTimestamp, SegmentExpired, UnknownIngressInterface, UnknownEgressInterface, InvalidMacError, InvalidSegmentChange, EgressInterfaceDown, InvalidScmpAlert}
+use Rattle.answers.specs.declared.StandardRoutingError.the-variants.{UnsoundTable, HeaderFailed, AdvanceFailed, InvalidIngressInterface, InvalidEgressInterface, FutureTimestamp, SegmentExpired, UnknownIngressInterface, UnknownEgressInterface, InvalidMacError, InvalidSegmentChange, EgressInterfaceDown, InvalidScmpAlert}
 use Rattle.answers.specs.declared.scmp.ScmpError.{ScmpError}
 use Rattle.answers.specs.declared.scmp.ScmpError.the-variants.{NoMessage, ParameterProblem, ExternalInterfaceDown}
 
@@ -21,9 +21,7 @@ interfaceError isConsIngress = ParameterProblem (cond isConsIngress 49 50) 0
 -- with C set the travel ingress is the ConsIngress, and the travel egress the ConsEgress
 unfoldable pub toScmpError : StandardRoutingError → ScmpError
 toScmpError UnsoundTable = NoMessage
-toScmpError MetaTooShort = NoMessage
-toScmpError DataTooShort = NoMessage
-toScmpError TooManyHops = NoMessage
+toScmpError (HeaderFailed error) = NoMessage
 toScmpError (AdvanceFailed why) = NoMessage
 toScmpError (InvalidIngressInterface hop expected found c) = interfaceError c
 toScmpError (FutureTimestamp hop) = ParameterProblem 48 0

@@ -9,6 +9,8 @@
 pub mod number;
 pub mod scmp;
 
+use standard_path::view::HeaderError;
+
 pub enum LocalAsRoutingAction {
     IngressSCMPHandleRequest { interface_id: u16 },
     EgressSCMPHandleRequest { interface_id: u16 },
@@ -35,9 +37,7 @@ pub enum AdvanceError {
 // The MACs are numbers of 48 bits: an enum holds no array.
 pub enum StandardRoutingError {
     UnsoundTable,
-    MetaTooShort,
-    DataTooShort,
-    TooManyHops,
+    HeaderFailed(HeaderError),
     AdvanceFailed(AdvanceError),
     InvalidIngressInterface {
         hop_index: u8,

@@ -1,9 +1,13 @@
-// 01's number of a refusal, and the values that it carries, for whoever has to write them down.
+// The number of an answer, and the values that it carries, for whoever has to write them down: 01's for a refusal.
 use crate::AdvanceError;
+use crate::AsRoutingAction;
+use crate::LocalAsRoutingAction;
 use crate::StandardRoutingError;
+use standard_path::view;
 ghost use mathlib.Core.Path.{_≡_};
 ghost use lib.ListN.{length};
 ghost use Rattle.answers.specs.Answer.{advanceNumber, refusalNumber, flag, fourValues, advanceValues, refusalValues};
+ghost use Rattle.answers.specs.Answer.{localNumber, actionNumber, localValues, actionValues};
 
 // ---- the number
 
@@ -25,9 +29,7 @@ pub fn refusal_number(why: StandardRoutingError) -> u8
 {
     match why {
         StandardRoutingError::UnsoundTable => 1,
-        StandardRoutingError::MetaTooShort => 2,
-        StandardRoutingError::DataTooShort => 3,
-        StandardRoutingError::TooManyHops => 4,
+        StandardRoutingError::HeaderFailed(error) => view::header_number(error),
         StandardRoutingError::AdvanceFailed(why) => advance_number(why),
         StandardRoutingError::InvalidIngressInterface { .. } => 9,
         StandardRoutingError::FutureTimestamp { .. } => 10,
@@ -71,9 +73,7 @@ pub fn refusal_values(why: StandardRoutingError) -> [u64; 4]
 {
     match why {
         StandardRoutingError::UnsoundTable => [0, 0, 0, 0],
-        StandardRoutingError::MetaTooShort => [0, 0, 0, 0],
-        StandardRoutingError::DataTooShort => [0, 0, 0, 0],
-        StandardRoutingError::TooManyHops => [0, 0, 0, 0],
+        StandardRoutingError::HeaderFailed(_) => [0, 0, 0, 0],
         StandardRoutingError::AdvanceFailed(why) => advance_values(why),
         StandardRoutingError::InvalidIngressInterface {
             hop_index,
@@ -145,9 +145,7 @@ pub fn refusal_value_count(why: StandardRoutingError) -> u8
 {
     match why {
         StandardRoutingError::UnsoundTable => 0,
-        StandardRoutingError::MetaTooShort => 0,
-        StandardRoutingError::DataTooShort => 0,
-        StandardRoutingError::TooManyHops => 0,
+        StandardRoutingError::HeaderFailed(_) => 0,
         StandardRoutingError::AdvanceFailed(why) => advance_value_count(why),
         StandardRoutingError::InvalidIngressInterface { .. } => 4,
         StandardRoutingError::FutureTimestamp { .. } => 1,
@@ -159,5 +157,70 @@ pub fn refusal_value_count(why: StandardRoutingError) -> u8
         StandardRoutingError::InvalidSegmentChange { .. } => 1,
         StandardRoutingError::EgressInterfaceDown { .. } => 2,
         StandardRoutingError::InvalidEgressInterface { .. } => 4,
+    }
+}
+
+// ---- what is done with a packet
+
+fn local_number(action: LocalAsRoutingAction) -> u8
+    ensures { λ r. ⌜ r ≡ localNumber action ⌝ }
+{
+    match action {
+        LocalAsRoutingAction::ForwardLocal => 102,
+        LocalAsRoutingAction::IngressSCMPHandleRequest { .. } => 103,
+        LocalAsRoutingAction::EgressSCMPHandleRequest { .. } => 104,
+    }
+}
+
+pub fn action_number(action: AsRoutingAction) -> u8
+    ensures { λ r. ⌜ r ≡ actionNumber action ⌝ }
+{
+    match action {
+        AsRoutingAction::ForwardNextHop { .. } => 101,
+        AsRoutingAction::Local(action) => local_number(action),
+    }
+}
+
+fn local_values(action: LocalAsRoutingAction) -> [u64; 4]
+    ensures { λ r. ⌜ r ≡ fourValues (localValues action) ⌝ }
+{
+    match action {
+        LocalAsRoutingAction::ForwardLocal => [0, 0, 0, 0],
+        LocalAsRoutingAction::IngressSCMPHandleRequest { interface_id } => {
+            [interface_id as u64, 0, 0, 0]
+        }
+        LocalAsRoutingAction::EgressSCMPHandleRequest { interface_id } => {
+            [interface_id as u64, 0, 0, 0]
+        }
+    }
+}
+
+pub fn action_values(action: AsRoutingAction) -> [u64; 4]
+    ensures { λ r. ⌜ r ≡ fourValues (actionValues action) ⌝ }
+{
+    match action {
+        AsRoutingAction::ForwardNextHop {
+            egress_interface_id,
+        } => [egress_interface_id as u64, 0, 0, 0],
+        AsRoutingAction::Local(action) => local_values(action),
+    }
+}
+
+fn local_value_count(action: LocalAsRoutingAction) -> u8
+    ensures { λ r. ⌜ r ≡ length (localValues action) ⌝ }
+{
+    match action {
+        LocalAsRoutingAction::ForwardLocal => 0,
+        LocalAsRoutingAction::IngressSCMPHandleRequest { .. } => 1,
+        LocalAsRoutingAction::EgressSCMPHandleRequest { .. } => 1,
+    }
+}
+
+pub fn action_value_count(action: AsRoutingAction) -> u8
+    ensures { λ r. ⌜ r ≡ length (actionValues action) ⌝ }
+{
+    match action {
+        AsRoutingAction::ForwardNextHop { .. } => 1,
+        AsRoutingAction::Local(action) => local_value_count(action),
     }
 }

@@ -47,9 +47,7 @@ pub fn to_scmp_error(why: StandardRoutingError) -> ScmpError
 {
     match why {
         StandardRoutingError::UnsoundTable => ScmpError::NoMessage,
-        StandardRoutingError::MetaTooShort => ScmpError::NoMessage,
-        StandardRoutingError::DataTooShort => ScmpError::NoMessage,
-        StandardRoutingError::TooManyHops => ScmpError::NoMessage,
+        StandardRoutingError::HeaderFailed(_) => ScmpError::NoMessage,
         StandardRoutingError::AdvanceFailed(_) => ScmpError::NoMessage,
         StandardRoutingError::InvalidIngressInterface { cons_dir, .. } => interface_error(cons_dir),
         StandardRoutingError::UnknownIngressInterface { cons_dir, .. } => interface_error(cons_dir),

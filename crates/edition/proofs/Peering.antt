@@ -7,6 +7,7 @@ use Prim.Native.Nat.{ℕ, _+_, _≤_, _<_, min}
 use native.Mathlib.Omega.{arith}
 use borrow.Author.Tests.{eqb-true, eqb-false, ltb-true, not-true}
 use lib.Dec.{eqb, ltb}
+use Rattle.questions.specs.Questions.{asks}
 use Rattle.octets.proofs.Bools.{first-of, second-of}
 use Rattle.standard_path.specs.Meta.{seg0Len, seg1Len, seg2Len}
 use Rattle.fields.specs.Fields.{peering}
@@ -144,6 +145,6 @@ valid-fits Second path e = first-yes _ _ _ e
 
 pub unfit-invalid : (edition : Edition) (path : List ℕ) → peeringFits edition path ≡ false
     → firstNo (peeringQuestions edition path) ≡ Invalid (AdvanceFailed MisplacedPeering)
-unfolding firstNo
+unfolding asks
 unfit-invalid First path e = let z : _≡_ {A = ℕ} 0 1 = cc in absurd (omega arith)
 unfit-invalid Second path e = rw e

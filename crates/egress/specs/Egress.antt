@@ -6,17 +6,16 @@ use mathlib.Core.List.{List}
 use lib.Dec.{eqb}
 use Rattle.standard_path.specs.Meta.{currHf}
 use Rattle.fields.specs.Fields.{consDir, segId, travelEgress, travelEgressAlert}
-use Rattle.answers.specs.Questions.{Questions, firstNo}
+use Rattle.questions.specs.Questions.{asks}
+use Rattle.answers.specs.Questions.{Questions}
 use Rattle.validator.specs.Check.{MacFunction, hopQuestions}
 use Rattle.validator.specs.declared.StandardValidator.{StandardValidator}
-use Rattle.answers.specs.declared.Validation.{Validation}
-use Rattle.answers.specs.declared.Validation.the-variants.{Valid, Invalid}
 use Rattle.answers.specs.declared.LocalAsRoutingAction.the-variants.{EgressSCMPHandleRequest}
 use Rattle.answers.specs.declared.AsRoutingAction.the-variants.{Local, ForwardNextHop}
 use Rattle.answers.specs.declared.StepAnswer.{StepAnswer}
 use Rattle.answers.specs.declared.StepAnswer.the-variants.{Action, Refused}
 use Rattle.edition.specs.declared.Edition.{Edition}
-use Rattle.answers.specs.Outcome.{Outcome, asks}
+use Rattle.answers.specs.Outcome.{Outcome, leaves}
 use Rattle.place.specs.Place.{before, egressPlace, hop, info}
 use Rattle.moves.specs.Moves.{egressMove}
 
@@ -35,14 +34,9 @@ leavingAction hop info =
 abbrev pub egressAction : List ℕ → StepAnswer
 egressAction path = leavingAction (hop path) (info path)
 
--- the action if every check passed, else the refusal
-abbrev pub decided : Validation → StepAnswer → StepAnswer
-decided Valid action = action
-decided (Invalid why) action = Refused why
-
 -- from 19 on the bytes are moved whatever is answered
 unfoldable pub egress : Edition → List ℕ → List ℕ → MacFunction → StandardValidator → List ℕ → Outcome StepAnswer
 egress edition ids states mac at path =
-    asks Refused (firstNo (before ids states path)) path
-    (asks Refused (firstNo (egressPlace edition path)) path
-    (record { answer = decided (firstNo (egressQuestions mac at path)) (egressAction path); bytes = egressMove edition path }))
+    asks (leaves Refused path) (before ids states path)
+    (asks (leaves Refused path) (egressPlace edition path)
+    (record { answer = asks Refused (egressQuestions mac at path) (egressAction path); bytes = egressMove edition path }))

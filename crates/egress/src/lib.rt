@@ -16,10 +16,12 @@ use standard_path::view;
 use validator::StandardValidator;
 use validator::validate_mac;
 ghost use mathlib.Core.Path.{_≡_};
+ghost use Rattle.questions.specs.Questions.{asks};
 ghost use Rattle.answers.specs.Questions.{firstNo};
+ghost use Rattle.answers.specs.declared.StepAnswer.the-variants.{Refused};
 ghost use Rattle.validator.specs.Check.{keyMac};
 ghost use Rattle.moves.specs.Moves.{egressMove};
-ghost use Rattle.egress.specs.Egress.{egressQuestions, leavingAction, egressAction, decided, egress};
+ghost use Rattle.egress.specs.Egress.{egressQuestions, leavingAction, egressAction, egress};
 
 // Questions 19, 10, 11 and 12.
 fn validate_egress(forwarding_key: &ForwardingKey, at: StandardValidator, path: &[u8]) -> Validation
@@ -62,7 +64,7 @@ fn egress_action(hop: &[u8], info: &[u8]) -> StepAnswer
 
 // The answer, from the path as it came.
 fn decide_egress(forwarding_key: &ForwardingKey, at: StandardValidator, path: &[u8]) -> StepAnswer
-    ensures { λ r. ⌜ r ≡ decided (firstNo (egressQuestions (keyMac (now («forwarding_key» .entry))) at (now (path .entry))))
+    ensures { λ r. ⌜ r ≡ asks Refused (egressQuestions (keyMac (now («forwarding_key» .entry))) at (now (path .entry)))
         (egressAction (now (path .entry))) ⌝ }
 {
     let action = egress_action(view::curr_hop_field(path), view::curr_info_field(path));

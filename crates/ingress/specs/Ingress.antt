@@ -6,17 +6,16 @@ use mathlib.Core.List.{List, [], _++_}
 use lib.Dec.{eqb}
 use Rattle.standard_path.specs.Meta.{currHf}
 use Rattle.fields.specs.Fields.{consDir, segId, travelIngress, travelEgress, travelIngressAlert}
-use Rattle.answers.specs.Questions.{Questions, firstNo}
+use Rattle.questions.specs.Questions.{asks}
+use Rattle.answers.specs.Questions.{Questions}
 use Rattle.validator.specs.Check.{MacFunction, fieldQuestions, macQuestions, hopQuestions, changeQuestions}
 use Rattle.validator.specs.declared.StandardValidator.{StandardValidator}
-use Rattle.answers.specs.declared.Validation.{Validation}
-use Rattle.answers.specs.declared.Validation.the-variants.{Valid, Invalid}
 use Rattle.answers.specs.declared.LocalAsRoutingAction.the-variants.{IngressSCMPHandleRequest, ForwardLocal}
 use Rattle.answers.specs.declared.AsRoutingAction.the-variants.{Local}
 use Rattle.answers.specs.declared.IngressNextAction.{IngressNextAction}
 use Rattle.answers.specs.declared.IngressNextAction.the-variants.{ContinueEgress, Complete, Refused}
 use Rattle.edition.specs.declared.Edition.{Edition}
-use Rattle.answers.specs.Outcome.{Outcome, asks}
+use Rattle.answers.specs.Outcome.{Outcome, leaves}
 use Rattle.place.specs.Place.{before, ingressPlace, hop, info, nextHop, nextInfo, isFinal, changes}
 use Rattle.moves.specs.Moves.{ingressSegId, ingressMove}
 
@@ -61,19 +60,14 @@ ingressAction path interface change final =
 
 -- ---- the half as a whole
 
--- the action if every check passed, else the refusal
-abbrev pub decided : Validation → IngressNextAction → IngressNextAction
-decided Valid action = action
-decided (Invalid why) action = Refused why
-
 -- from 9 on the bytes are moved whatever is answered
 unfoldable pub ingress : Edition → List ℕ → List ℕ → MacFunction → StandardValidator → List ℕ → Outcome IngressNextAction
 ingress edition ids states mac at path =
-    asks Refused (firstNo (before ids states path)) path
-    (asks Refused (firstNo (ingressPlace edition path)) path
+    asks (leaves Refused path) (before ids states path)
+    (asks (leaves Refused path) (ingressPlace edition path)
     (record {
       answer =
-          decided (firstNo (ingressQuestions edition ids states mac at path (changes edition path)))
+          asks Refused (ingressQuestions edition ids states mac at path (changes edition path))
           (ingressAction path (at .«current_interface_id») (changes edition path) (isFinal path));
       bytes = ingressMove edition path (at .«current_interface_id») (changes edition path);
     }))

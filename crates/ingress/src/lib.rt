@@ -20,12 +20,14 @@ use validator::validate_segment_change;
 ghost use mathlib.Core.Path.{_≡_};
 ghost use mathlib.Core.Bool.{false};
 ghost use lib.ListN.{drop};
+ghost use Rattle.questions.specs.Questions.{asks};
 ghost use Rattle.answers.specs.Questions.{firstNo};
+ghost use Rattle.answers.specs.declared.IngressNextAction.the-variants.{Refused};
 ghost use Rattle.validator.specs.Check.{keyMac};
 ghost use Rattle.place.specs.Place.{nextHop, nextInfo};
 ghost use Rattle.moves.specs.Moves.{ingressMove};
 ghost use Rattle.ingress.specs.Ingress.{nextFieldQuestions, ingressQuestions};
-ghost use Rattle.ingress.specs.Ingress.{alertsAtIngress, leaving, ingressAction, decided, ingress};
+ghost use Rattle.ingress.specs.Ingress.{alertsAtIngress, leaving, ingressAction, ingress};
 
 // The hop field after the current one, and the info field after the current one.
 fn next_hop_field(path: &[u8]) -> &[u8]
@@ -198,8 +200,8 @@ fn decide_ingress(
     change: bool,
     last: bool,
 ) -> IngressNextAction
-    ensures { λ r. ⌜ r ≡ decided (firstNo (ingressQuestions edition (now (ids .entry)) (now (states .entry))
-        (keyMac (now («forwarding_key» .entry))) at (now (path .entry)) change))
+    ensures { λ r. ⌜ r ≡ asks Refused (ingressQuestions edition (now (ids .entry)) (now (states .entry))
+        (keyMac (now («forwarding_key» .entry))) at (now (path .entry)) change)
         (ingressAction (now (path .entry)) (at .«current_interface_id») change last) ⌝ }
 {
     let action = ingress_action(path, at.current_interface_id, change, last);
@@ -219,8 +221,8 @@ fn ingress_here(
     change: bool,
     last: bool,
 ) -> IngressNextAction
-    ensures { λ r. ⌜ r ≡ decided (firstNo (ingressQuestions edition (now (ids .entry)) (now (states .entry))
-        (keyMac (now («forwarding_key» .entry))) at (now (path .entry)) change))
+    ensures { λ r. ⌜ r ≡ asks Refused (ingressQuestions edition (now (ids .entry)) (now (states .entry))
+        (keyMac (now («forwarding_key» .entry))) at (now (path .entry)) change)
         (ingressAction (now (path .entry)) (at .«current_interface_id») change last) ⌝ }
     ensures { λ _. ⌜ now (path .exit) ≡ ingressMove edition (now (path .entry)) (at .«current_interface_id») change ⌝ }
 {

@@ -1,21 +1,24 @@
 -- What the header's reader and the segment index say, in the words of the questions.
 -- Assumes nothing.
-use mathlib.Core.Path.{_≡_, refl}
+use mathlib.Core.Path.{_≡_, refl, sym, _∙_}
 use mathlib.Core.Bool.{Bool, true, false, not, _&&_, _||_, cond}
 use mathlib.Core.List.{List, _++_}
 use Prim.Native.Nat.{ℕ, _+_}
 use native.Mathlib.Omega.{arith}
 use borrow.Author.Tests.{not-true, not-false}
 use lib.Dec.{eqb, ltb}
+use Rattle.questions.specs.Questions.{asks, within}
+use Rattle.questions.proofs.Asked.{asks-within}
 use Rattle.standard_path.specs.Meta.{seg0Len, seg1Len, seg2Len}
-use Rattle.standard_path.specs.Header.{hops, metaThere, fieldsThere, hopsFew, headerCheck, segmentOf, segmentStart, segmentEnd, segmentAmong, segmentIndex}
+use Rattle.standard_path.specs.Header.{hops, headerQuestions, headerCheck, segmentOf, segmentStart, segmentEnd, segmentAmong, segmentIndex}
 use Rattle.standard_path.specs.declared.view.HeaderCheck.{HeaderCheck}
-use Rattle.standard_path.specs.declared.view.HeaderCheck.the-variants as header
+use Rattle.standard_path.specs.declared.view.HeaderCheck.the-variants.{Complete, Failed}
+use Rattle.standard_path.proofs.HeaderAsked.{header-asked}
 use Rattle.standard_path.specs.declared.view.SegmentIndex.{SegmentIndex}
 use Rattle.standard_path.specs.declared.view.SegmentIndex.the-variants.{At, OutOfBounds}
 use Rattle.answers.specs.Questions.{firstNo}
 use Rattle.answers.proofs.Asked.{same-append}
-use Rattle.answers.specs.declared.StandardRoutingError.the-variants.{MetaTooShort, DataTooShort, TooManyHops}
+use Rattle.answers.specs.declared.StandardRoutingError.the-variants.{HeaderFailed}
 use Rattle.answers.specs.declared.Validation.{Validation}
 use Rattle.answers.specs.declared.Validation.the-variants.{Valid, Invalid}
 use Rattle.answers.specs.declared.StandardRoutingError.{StandardRoutingError}
@@ -23,26 +26,15 @@ use Rattle.place.specs.declared.Located.the-variants.{Here, Nowhere}
 use Rattle.edition.specs.declared.Edition.{Edition}
 use Rattle.edition.specs.declared.Edition.the-variants.{First, Second}
 use Rattle.edition.specs.Edition.{peeringFits, peeringQuestions}
-use Rattle.place.specs.Place.{headerQuestions, crosses, placeQuestions, wayQuestions, egressPlace}
+use Rattle.place.specs.Place.{crosses, placeQuestions, wayQuestions, egressPlace}
 use Rattle.place.specs.Inner.{located, onwardBy, egressPlaceBy}
 
 abbrev pub asValidation : HeaderCheck → Validation
-asValidation header.Complete = Valid
-asValidation header.MetaTooShort = Invalid MetaTooShort
-asValidation header.DataTooShort = Invalid DataTooShort
-asValidation header.TooManyHops = Invalid TooManyHops
+asValidation Complete = Valid
+asValidation (Failed error) = Invalid (HeaderFailed error)
 
-pub header-law : (path : List ℕ) → firstNo (headerQuestions path) ≡ asValidation (headerCheck path)
-unfolding firstNo headerCheck
-header-law path = go (metaThere path) (fieldsThere path) (hopsFew path)
-  where
-    go : (meta fields few : Bool)
-        → cond meta (cond fields (cond few Valid (Invalid TooManyHops)) (Invalid DataTooShort)) (Invalid MetaTooShort)
-        ≡ asValidation (cond meta (cond fields (cond few header.Complete header.TooManyHops) header.DataTooShort) header.MetaTooShort)
-    go false fields few = refl
-    go true false few = refl
-    go true true false = refl
-    go true true true = refl
+pub header-law : (path : List ℕ) → firstNo (within HeaderFailed (headerQuestions path)) ≡ asValidation (headerCheck path)
+header-law path = asks-within HeaderFailed Invalid (headerQuestions path) Valid ∙ sym (header-asked asValidation path)
 
 -- a hop that lies in a segment
 pub record Lies (path : List ℕ) (h index : ℕ) (start end : Bool) : Type 0 where
@@ -103,7 +95,7 @@ located-nowhere (Invalid other) change last e = cc
 -- at egress, with what the edition makes of the path
 pub placed-by : (edition : Edition) (path : List ℕ) {fits crossing : Bool} → fits ≡ peeringFits edition path → crossing ≡ crosses edition path
     → firstNo (egressPlaceBy path fits crossing) ≡ firstNo (egressPlace edition path)
-unfolding firstNo
+unfolding asks
 placed-by edition path f x = rw (f, x) (same-append (placeQuestions path) (onwardBy path (peeringFits edition path) (crosses edition path))
     (peeringQuestions edition path ++ wayQuestions edition path) (go edition))
   where

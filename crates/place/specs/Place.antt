@@ -5,22 +5,18 @@ use mathlib.Core.Bool.{Bool, not, _&&_, _||_}
 use mathlib.Core.List.{List, [], _∷_, _++_}
 use lib.Dec.{eqb, ltb, leb}
 use Rattle.standard_path.specs.Meta.{currInf, currHf, seg0Len, seg1Len, seg2Len}
-use Rattle.standard_path.specs.Header.{infos, hops, infoField, hopField, metaThere, fieldsThere, hopsFew, segmentOf, segmentStart, segmentEnd}
+use Rattle.standard_path.specs.Header.{infos, hops, infoField, hopField, headerQuestions, segmentOf, segmentStart, segmentEnd}
 use Rattle.interface_table.specs.Table.{tableSound}
+use Rattle.questions.specs.Questions.{within}
 use Rattle.answers.specs.Questions.{Questions}
 use Rattle.edition.specs.declared.Edition.{Edition}
 use Rattle.edition.specs.Edition.{peeringPath, firstPeeringHop, peeringHop, peeringQuestions}
 use Rattle.answers.specs.declared.AdvanceError.the-variants.{HopOutOfBounds, InfoOutOfBounds, InvalidSegmentIndex, SingleHopSegment, SegmentEnd}
-use Rattle.answers.specs.declared.StandardRoutingError.the-variants.{UnsoundTable, MetaTooShort, DataTooShort, TooManyHops, AdvanceFailed}
+use Rattle.answers.specs.declared.StandardRoutingError.the-variants.{UnsoundTable, HeaderFailed, AdvanceFailed}
 
--- 2, 3, 4
-abbrev pub headerQuestions : List ℕ → Questions
-headerQuestions path =
-    (metaThere path, MetaTooShort) ∷ (fieldsThere path, DataTooShort) ∷ (hopsFew path, TooManyHops) ∷ []
-
--- 1, then these: 'Before everything'
+-- 1, then 2, 3 and 4: 'Before everything'
 abbrev pub before : List ℕ → List ℕ → List ℕ → Questions
-before ids states path = (tableSound ids states, UnsoundTable) ∷ headerQuestions path
+before ids states path = (tableSound ids states, UnsoundTable) ∷ within HeaderFailed (headerQuestions path)
 
 -- ---- the current hop
 

@@ -13,9 +13,12 @@ use standard_path::view;
 use standard_path::view::HeaderCheck;
 use standard_path::view::SegmentIndex;
 ghost use mathlib.Core.Path.{_≡_};
+ghost use Rattle.questions.specs.Questions.{within};
+ghost use Rattle.standard_path.specs.Header.{headerQuestions};
 ghost use Rattle.answers.specs.Questions.{firstNo};
+ghost use Rattle.answers.specs.declared.StandardRoutingError.the-variants.{HeaderFailed};
 ghost use Rattle.edition.specs.Edition.{peeringQuestions};
-ghost use Rattle.place.specs.Place.{before, headerQuestions, ingressPlace, changes, crosses, isFinal, isPeeringHop};
+ghost use Rattle.place.specs.Place.{before, ingressPlace, changes, crosses, isFinal, isPeeringHop};
 ghost use Rattle.place.specs.Inner.{located, egressPlaceBy};
 
 // Where the path stands: whether its hop makes a segment change, and whether it is the path's last.
@@ -26,13 +29,13 @@ pub enum Located {
 
 // Questions 2 to 4.
 fn check_header(path: &[u8]) -> Validation
-    ensures { λ r. ⌜ r ≡ firstNo (headerQuestions (now (path .entry))) ⌝ }
+    ensures { λ r. ⌜ r ≡ firstNo (within HeaderFailed (headerQuestions (now (path .entry)))) ⌝ }
 {
     match view::check_header(path) {
         HeaderCheck::Complete => Validation::Valid,
-        HeaderCheck::MetaTooShort => Validation::Invalid(StandardRoutingError::MetaTooShort),
-        HeaderCheck::DataTooShort => Validation::Invalid(StandardRoutingError::DataTooShort),
-        HeaderCheck::TooManyHops => Validation::Invalid(StandardRoutingError::TooManyHops),
+        HeaderCheck::Failed(error) => {
+            Validation::Invalid(StandardRoutingError::HeaderFailed(error))
+        }
     }
 }
 

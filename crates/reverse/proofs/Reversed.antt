@@ -10,6 +10,7 @@ use borrow.Author.Tests.{leb-true}
 use lib.ListN.{length, getD, take, drop, length-set}
 use lib.Seq.{take-add, drop-at, length-take-le, drop-set-lt, getD-take}
 use Rattle.fields.specs.Layout.{infoOffset, hopOffset}
+use Rattle.questions.specs.Questions.{asks}
 use Rattle.standard_path.specs.Meta.{currInf, currHf, seg0Len, seg1Len, seg2Len, setCurrInf, setCurrHf}
 use Rattle.standard_path.specs.Header.{infos, hops, headerSize, infoField, hopField, headerCheck}
 use Rattle.standard_path.proofs.IndexSet.{set-hf-kept, set-hf-byte, set-inf-byte, hf-after-hf, hf-after-inf, inf-after-inf}
@@ -17,7 +18,7 @@ use Rattle.segments.specs.Segments.{segments, segmentCount}
 use Rattle.reverse.specs.Reverse.{swapLengths, toggleConsDirs, reverseFields, reverseParts, reversed, bytesLeft, reverseAnswer, reverseBytes}
 use Rattle.reverse.specs.declared.Reversal.{Reversal}
 use Rattle.reverse.specs.declared.Reversal.the-variants.{Reversed, Failed}
-use Rattle.reverse.specs.declared.PathReverseError.the-variants.{MetaTooShort, DataTooShort, TooManyHops, NoSegments, HopOutOfBounds, InfoOutOfBounds}
+use Rattle.reverse.specs.declared.PathReverseError.the-variants.{HeaderFailed, NoSegments, HopOutOfBounds, InfoOutOfBounds}
 use Rattle.reverse.proofs.FieldOrder.{length-reverse-fields, before-fields, behind-fields, reversed-field}
 use Rattle.segments.proofs.Walk.{count-at-most}
 use Rattle.reverse.proofs.Reversible.{Whole, whole, Reversible, reversible}
@@ -183,7 +184,7 @@ module _ (path : List ℕ) (ok : Reversible path) where
 
 same-header : (left path : List ℕ) → length left ≡ length path → infos left ≡ infos path → hops left ≡ hops path
     → headerCheck left ≡ headerCheck path
-unfolding headerCheck headerSize
+unfolding asks headerCheck headerSize
 same-header left path p q r = rw (p, q, r)
 
 module _ (path : List ℕ) where
@@ -193,9 +194,7 @@ module _ (path : List ℕ) where
     where
       go : (r : Reversal) → reverseAnswer path ≡ r → P (bytesLeft r path)
       go Reversed e = turned (reversible path e)
-      go (Failed MetaTooShort) e = same
-      go (Failed DataTooShort) e = same
-      go (Failed TooManyHops) e = same
+      go (Failed (HeaderFailed error)) e = same
       go (Failed NoSegments) e = same
       go (Failed HopOutOfBounds) e = swapped
       go (Failed InfoOutOfBounds) e = swapped
@@ -211,7 +210,7 @@ module _ (path : List ℕ) where
 
   module _ (bytes : (i : ℕ) → getD path i 0 < 256) where
     swapped-header : headerCheck (swapLengths path) ≡ headerCheck path
-    unfolding headerCheck
+    unfolding asks headerCheck
     swapped-header = go (leb 4 (length path)) refl
       where
         go : (there : Bool) → leb 4 (length path) ≡ there → headerCheck (swapLengths path) ≡ headerCheck path

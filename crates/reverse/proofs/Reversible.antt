@@ -1,21 +1,26 @@
 -- The answers of a reversal: each from what was asked, and what `Reversed` says of the path.
 -- Assumes nothing.
-use mathlib.Core.Path.{_≡_, refl}
-use mathlib.Core.Bool.{Bool, true, false}
+use mathlib.Core.Path.{_≡_, refl, sym, _∙_}
+use mathlib.Core.Bool.{Bool, true, false, not, cond}
 use mathlib.Core.List.{List}
 use Prim.Native.Nat.{ℕ, _≤_, _<_}
 use native.Mathlib.Omega.{arith}
-use lib.Dec.{eqb, leb}
+use lib.Dec.{eqb, ltb}
 use lib.ListN.{length}
-use borrow.Author.Tests.{leb-true, leb-false, eqb-false, eq-eqb, ne-eqb, le-leb, lt-leb}
+use borrow.Author.Tests.{leb-true, ltb-true, eqb-false, eq-eqb, ne-eqb, le-ltb, lt-ltb}
+use Rattle.questions.specs.Questions.{asks, within}
+use Rattle.questions.proofs.Asked.{asks-append, asks-within}
 use Rattle.standard_path.specs.Meta.{currInf, currHf, seg0Len}
-use Rattle.standard_path.specs.Header.{hops, headerSize, metaThere, fieldsThere, hopsFew, headerCheck}
+use Rattle.standard_path.specs.Header.{hops, headerSize, metaThere, fieldsThere, hopsFew, headerQuestions, headerCheck}
+use Rattle.standard_path.proofs.HeaderAsked.{header-asked}
 use Rattle.segments.specs.Segments.{segmentCount}
-use Rattle.reverse.specs.Reverse.{reverseAsked, reverseAnswer}
+use Rattle.reverse.specs.Reverse.{indexQuestions, reverseAnswer}
 use Rattle.standard_path.specs.declared.view.HeaderCheck.{HeaderCheck}
-use Rattle.standard_path.specs.declared.view.HeaderCheck.the-variants.{Complete, MetaTooShort, DataTooShort, TooManyHops}
+use Rattle.standard_path.specs.declared.view.HeaderCheck.the-variants.{Complete}
+use Rattle.standard_path.specs.declared.view.HeaderCheck.the-variants as header
+use Rattle.reverse.specs.declared.Reversal.{Reversal}
 use Rattle.reverse.specs.declared.Reversal.the-variants.{Reversed, Failed}
-use Rattle.reverse.specs.declared.PathReverseError.the-variants.{NoSegments, HopOutOfBounds, InfoOutOfBounds}
+use Rattle.reverse.specs.declared.PathReverseError.the-variants.{HeaderFailed, NoSegments, HopOutOfBounds, InfoOutOfBounds}
 
 -- what a complete header says
 pub record Whole (path : List ℕ) : Type 0 where
@@ -30,9 +35,24 @@ pub record Reversible (path : List ℕ) : Type 0 where
   pub hop : currHf path < hops path
   pub info : currInf path < segmentCount path
 
+-- 20, 21 and 22, once the header is complete
+abbrev pub asked : List ℕ → Reversal
+asked path = asks Failed (indexQuestions path) Reversed
+
+abbrev pub afterHeader : HeaderCheck → Reversal → Reversal
+afterHeader Complete after = after
+afterHeader (header.Failed error) after = Failed (HeaderFailed error)
+
 module _ (path : List ℕ) where
+  pub answer-asked : reverseAnswer path ≡ afterHeader (headerCheck path) (asked path)
+  unfolding reverseAnswer
+  answer-asked =
+      asks-append Failed (within HeaderFailed (headerQuestions path)) (indexQuestions path) Reversed
+      ∙ asks-within HeaderFailed Failed (headerQuestions path) (asked path)
+      ∙ sym (header-asked (λ check. afterHeader check (asked path)) path)
+
   pub whole : headerCheck path ≡ Complete → Whole path
-  unfolding headerCheck
+  unfolding asks headerCheck
   whole e = go (metaThere path) (fieldsThere path) (hopsFew path) refl refl refl
     where
       go : (meta fields few : Bool) → metaThere path ≡ meta → fieldsThere path ≡ fields → hopsFew path ≡ few → Whole path
@@ -41,36 +61,37 @@ module _ (path : List ℕ) where
       go true true false p q r = let z : _≡_ {A = ℕ} 0 1 = cc in absurd (omega arith)
       go true true true p q r = record { meta = leb-true _ _ p; fits = leb-true _ _ q; few = leb-true _ _ r }
 
-  pub no-segments : seg0Len path ≡ 0 → Failed NoSegments ≡ reverseAsked path
-  unfolding reverseAsked
+  pub no-segments : seg0Len path ≡ 0 → Failed NoSegments ≡ asked path
+  unfolding asks
   no-segments e = simp (eq-eqb _ _ e)
 
-  pub hop-out-of-bounds : (seg0Len path ≡ 0 → ⊥) → hops path ≤ currHf path → Failed HopOutOfBounds ≡ reverseAsked path
-  unfolding reverseAsked
-  hop-out-of-bounds n h = simp (ne-eqb _ _ n, le-leb _ _ h)
+  pub hop-out-of-bounds : (seg0Len path ≡ 0 → ⊥) → hops path ≤ currHf path → Failed HopOutOfBounds ≡ asked path
+  unfolding asks
+  hop-out-of-bounds n h = simp (ne-eqb _ _ n, le-ltb _ _ h)
 
   pub info-out-of-bounds : (seg0Len path ≡ 0 → ⊥) → currHf path < hops path → segmentCount path ≤ currInf path
-      → Failed InfoOutOfBounds ≡ reverseAsked path
-  unfolding reverseAsked
-  info-out-of-bounds n h i = simp (ne-eqb _ _ n, lt-leb _ _ h, le-leb _ _ i)
+      → Failed InfoOutOfBounds ≡ asked path
+  unfolding asks
+  info-out-of-bounds n h i = simp (ne-eqb _ _ n, lt-ltb _ _ h, le-ltb _ _ i)
 
-  pub all-answered : (seg0Len path ≡ 0 → ⊥) → currHf path < hops path → currInf path < segmentCount path → Reversed ≡ reverseAsked path
-  unfolding reverseAsked
-  all-answered n h i = simp (ne-eqb _ _ n, lt-leb _ _ h, lt-leb _ _ i)
+  pub all-answered : (seg0Len path ≡ 0 → ⊥) → currHf path < hops path → currInf path < segmentCount path → Reversed ≡ asked path
+  unfolding asks
+  all-answered n h i = simp (ne-eqb _ _ n, lt-ltb _ _ h, lt-ltb _ _ i)
 
   pub reversible : reverseAnswer path ≡ Reversed → Reversible path
-  unfolding reverseAnswer reverseAsked
+  unfolding asks
   reversible e =
-      go (headerCheck path) (eqb (seg0Len path) 0) (leb (hops path) (currHf path)) (leb (segmentCount path) (currInf path))
-      refl refl refl refl
+      go (headerCheck path) (eqb (seg0Len path) 0) (ltb (currHf path) (hops path)) (ltb (currInf path) (segmentCount path))
+      refl refl refl refl (sym answer-asked ∙ e)
     where
-      go : (header : HeaderCheck) (none hop info : Bool) → headerCheck path ≡ header → eqb (seg0Len path) 0 ≡ none
-          → leb (hops path) (currHf path) ≡ hop → leb (segmentCount path) (currInf path) ≡ info → Reversible path
-      go MetaTooShort none hop info p q r t = let z : _≡_ {A = ℕ} 0 1 = cc in absurd (omega arith)
-      go DataTooShort none hop info p q r t = let z : _≡_ {A = ℕ} 0 1 = cc in absurd (omega arith)
-      go TooManyHops none hop info p q r t = let z : _≡_ {A = ℕ} 0 1 = cc in absurd (omega arith)
-      go Complete true hop info p q r t = let z : _≡_ {A = ℕ} 0 1 = cc in absurd (omega arith)
-      go Complete false true info p q r t = let z : _≡_ {A = ℕ} 0 1 = cc in absurd (omega arith)
-      go Complete false false true p q r t = let z : _≡_ {A = ℕ} 0 1 = cc in absurd (omega arith)
-      go Complete false false false p q r t =
-          record { complete = p; segments = eqb-false _ _ q; hop = leb-false _ _ r; info = leb-false _ _ t }
+      go : (check : HeaderCheck) (none hop info : Bool) → headerCheck path ≡ check → eqb (seg0Len path) 0 ≡ none
+          → ltb (currHf path) (hops path) ≡ hop → ltb (currInf path) (segmentCount path) ≡ info
+          → afterHeader check (cond (not none) (cond hop (cond info Reversed (Failed InfoOutOfBounds)) (Failed HopOutOfBounds)) (Failed NoSegments))
+          ≡ Reversed
+          → Reversible path
+      go (header.Failed error) none hop info p q r t f = let z : _≡_ {A = ℕ} 0 1 = cc in absurd (omega arith)
+      go Complete true hop info p q r t f = let z : _≡_ {A = ℕ} 0 1 = cc in absurd (omega arith)
+      go Complete false false info p q r t f = let z : _≡_ {A = ℕ} 0 1 = cc in absurd (omega arith)
+      go Complete false true false p q r t f = let z : _≡_ {A = ℕ} 0 1 = cc in absurd (omega arith)
+      go Complete false true true p q r t f =
+          record { complete = p; segments = eqb-false _ _ q; hop = ltb-true _ _ r; info = ltb-true _ _ t }

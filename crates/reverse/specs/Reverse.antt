@@ -1,26 +1,23 @@
 -- 01, 'view.rs', `try_reverse`: its answer, the questions in order, and the bytes that it leaves.
 -- Assumes nothing.
 use Prim.Native.Nat.{ℕ, zero, suc, _+_, _-_, _*_, _/_, _%_}
-use mathlib.Core.Bool.{cond}
-use mathlib.Core.List.{List, [], _++_}
-use lib.Dec.{eqb, leb}
+use mathlib.Core.Bool.{not, cond}
+use mathlib.Core.List.{List, [], _∷_, _++_}
+use lib.Dec.{eqb, ltb}
 use lib.ListN.{getD, set, take, drop}
+use Rattle.questions.specs.Questions.{Questions, asks, within}
 use Rattle.fields.specs.Layout.{infoOffset, hopOffset}
 use Rattle.standard_path.specs.Meta.{currInf, currHf, seg0Len, seg1Len, seg2Len, setCurrInf, setCurrHf}
-use Rattle.standard_path.specs.Header.{infos, hops, headerCheck}
-use Rattle.standard_path.specs.declared.view.HeaderCheck.{HeaderCheck}
-use Rattle.standard_path.specs.declared.view.HeaderCheck.the-variants as header
+use Rattle.standard_path.specs.Header.{infos, hops, headerNumber, headerQuestions}
 use Rattle.segments.specs.Segments.{segmentCount}
 use Rattle.reverse.specs.declared.Reversal.{Reversal}
 use Rattle.reverse.specs.declared.Reversal.the-variants.{Reversed, Failed}
 use Rattle.reverse.specs.declared.PathReverseError.{PathReverseError}
-use Rattle.reverse.specs.declared.PathReverseError.the-variants.{MetaTooShort, DataTooShort, TooManyHops, NoSegments, HopOutOfBounds, InfoOutOfBounds}
+use Rattle.reverse.specs.declared.PathReverseError.the-variants.{HeaderFailed, NoSegments, HopOutOfBounds, InfoOutOfBounds}
 
 -- 01's number of an error
 abbrev pub reverseNumber : PathReverseError → ℕ
-reverseNumber MetaTooShort = 2
-reverseNumber DataTooShort = 3
-reverseNumber TooManyHops = 4
+reverseNumber (HeaderFailed error) = headerNumber error
 reverseNumber NoSegments = 20
 reverseNumber HopOutOfBounds = 21
 reverseNumber InfoOutOfBounds = 22
@@ -65,11 +62,6 @@ lastFirst size (suc n) l = lastFirst size n (drop size l) ++ take size l
 unfoldable pub reverseFields : ℕ → ℕ → ℕ → List ℕ → List ℕ
 reverseFields at size n path = take at path ++ (lastFirst size n (drop at path) ++ drop (at + size * n) path)
 
--- for the contract of an inner function: two fields exchanged, byte for byte
-unfoldable pub swapFields : ℕ → ℕ → ℕ → List ℕ → List ℕ
-swapFields zero low high path = path
-swapFields (suc size) low high path = swapFields size (suc low) (suc high) (set (set path low (getD path high 0)) high (getD path low 0))
-
 -- the info fields with C toggled, and the hop fields, each in the opposite order
 unfoldable pub reverseParts : ℕ → ℕ → List ℕ → List ℕ
 reverseParts infos hops path =
@@ -87,30 +79,25 @@ reversed path =
     (hops path - 1 - currHf path))
     (segmentCount path - 1 - currInf path)
 
--- 01, 'Questions in order', of a complete header: 20, 21 and 22
-unfoldable pub reverseAsked : List ℕ → Reversal
-reverseAsked path =
-    cond (eqb (seg0Len path) 0) (Failed NoSegments)
-    (cond (leb (hops path) (currHf path)) (Failed HopOutOfBounds)
-    (cond (leb (segmentCount path) (currInf path)) (Failed InfoOutOfBounds)
-    Reversed))
+-- 01, 'Questions in order': 20, 21 and 22
+abbrev pub indexQuestions : List ℕ → Questions PathReverseError
+indexQuestions path =
+    (not (eqb (seg0Len path) 0), NoSegments)
+    ∷ (ltb (currHf path) (hops path), HopOutOfBounds)
+    ∷ (ltb (currInf path) (segmentCount path), InfoOutOfBounds)
+    ∷ []
 
--- questions 2, 3 and 4 come first
-abbrev pub afterHeader : HeaderCheck → Reversal → Reversal
-afterHeader header.MetaTooShort asked = Failed MetaTooShort
-afterHeader header.DataTooShort asked = Failed DataTooShort
-afterHeader header.TooManyHops asked = Failed TooManyHops
-afterHeader header.Complete asked = asked
+-- 2, 3 and 4, then these
+abbrev pub reverseQuestions : List ℕ → Questions PathReverseError
+reverseQuestions path = within HeaderFailed (headerQuestions path) ++ indexQuestions path
 
 unfoldable pub reverseAnswer : List ℕ → Reversal
-reverseAnswer path = afterHeader (headerCheck path) (reverseAsked path)
+reverseAnswer path = asks Failed (reverseQuestions path) Reversed
 
 -- 01, 'Bytes left': 21 and 22 leave the lengths swapped
 unfoldable pub bytesLeft : Reversal → List ℕ → List ℕ
 bytesLeft Reversed path = reversed path
-bytesLeft (Failed MetaTooShort) path = path
-bytesLeft (Failed DataTooShort) path = path
-bytesLeft (Failed TooManyHops) path = path
+bytesLeft (Failed (HeaderFailed error)) path = path
 bytesLeft (Failed NoSegments) path = path
 bytesLeft (Failed HopOutOfBounds) path = swapLengths path
 bytesLeft (Failed InfoOutOfBounds) path = swapLengths path

@@ -9,18 +9,19 @@ use fields::layout::InfoFieldLayout;
 use fields::layout::StdPathMetaLayout;
 use standard_path::view;
 use standard_path::view::HeaderCheck;
+use standard_path::view::HeaderError;
 ghost use mathlib.Core.Path.{_≡_};
 ghost use Prim.Native.Nat.{_+_, _*_, _<_, _≤_};
+ghost use Rattle.questions.specs.Questions.{asks};
 ghost use Rattle.fields.specs.Layout.{hopOffset};
-ghost use Rattle.reverse.specs.Reverse.{setLengths, swapLengths, toggleConsDirs, swapFields, reverseFields, reverseParts, reversed};
-ghost use Rattle.reverse.specs.Reverse.{reverseNumber, reverseAsked, reverseAnswer, bytesLeft, reverseBytes};
+ghost use Rattle.reverse.specs.Reverse.{setLengths, swapLengths, toggleConsDirs, reverseFields, reverseParts, reversed};
+ghost use Rattle.reverse.specs.Inner.{swapFields};
+ghost use Rattle.reverse.specs.Reverse.{reverseNumber, indexQuestions, reverseAnswer, bytesLeft, reverseBytes};
 ghost use Rattle.reverse.specs.declared.Reversal.the-variants.{Reversed, Failed};
 
 // Why a path is not turned around: 01's answers 2, 3, 4, 20, 21 and 22.
 pub enum PathReverseError {
-    MetaTooShort,
-    DataTooShort,
-    TooManyHops,
+    HeaderFailed(HeaderError),
     NoSegments,
     HopOutOfBounds,
     InfoOutOfBounds,
@@ -36,9 +37,7 @@ pub fn reverse_number(error: PathReverseError) -> u8
     ensures { λ r. ⌜ r ≡ reverseNumber error ⌝ }
 {
     match error {
-        PathReverseError::MetaTooShort => 2,
-        PathReverseError::DataTooShort => 3,
-        PathReverseError::TooManyHops => 4,
+        PathReverseError::HeaderFailed(error) => view::header_number(error),
         PathReverseError::NoSegments => 20,
         PathReverseError::HopOutOfBounds => 21,
         PathReverseError::InfoOutOfBounds => 22,
@@ -146,7 +145,7 @@ fn reverse_parts(path: &mut [u8], infos: u8, hops: u8)
 
 // 01's questions 20, 21 and 22.
 fn asked(path: &[u8]) -> Reversal
-    ensures { λ r. ⌜ r ≡ reverseAsked (now (path .entry)) ⌝ }
+    ensures { λ r. ⌜ r ≡ asks Failed (indexQuestions (now (path .entry))) Reversed ⌝ }
 {
     if view::seg0_len(path) == 0 {
         return Reversal::Failed(PathReverseError::NoSegments);
@@ -165,9 +164,7 @@ fn answer(path: &[u8]) -> Reversal
 {
     let header = view::check_header(path);
     match header {
-        HeaderCheck::MetaTooShort => Reversal::Failed(PathReverseError::MetaTooShort),
-        HeaderCheck::DataTooShort => Reversal::Failed(PathReverseError::DataTooShort),
-        HeaderCheck::TooManyHops => Reversal::Failed(PathReverseError::TooManyHops),
+        HeaderCheck::Failed(error) => Reversal::Failed(PathReverseError::HeaderFailed(error)),
         HeaderCheck::Complete => asked(path),
     }
 }
@@ -191,9 +188,7 @@ fn leave(path: &mut [u8], error: PathReverseError)
     ensures { λ _. ⌜ now (path .exit) ≡ bytesLeft (Failed error) (now (path .entry)) ⌝ }
 {
     match error {
-        PathReverseError::MetaTooShort => {}
-        PathReverseError::DataTooShort => {}
-        PathReverseError::TooManyHops => {}
+        PathReverseError::HeaderFailed(_) => {}
         PathReverseError::NoSegments => {}
         PathReverseError::HopOutOfBounds => swap_lengths(path),
         PathReverseError::InfoOutOfBounds => swap_lengths(path),

@@ -9,6 +9,7 @@ use native.Mathlib.Omega.{arith}
 use borrow.Author.Tests.{ltb-true, leb-true, leb-false, eqb-true, lt-ltb, le-ltb, eq-eqb}
 use lib.Dec.{eqb, ltb, leb}
 use lib.ListN.{length}
+use Rattle.questions.specs.Questions.{asks}
 use Rattle.standard_path.specs.Meta.{currInf, currHf, seg0Len, seg1Len, setCurrHf, setCurrInf}
 use Rattle.fields.specs.Fields.{consDir, segId, travelEgress}
 use Rattle.standard_path.specs.Header.{infos, hops, headerSize, infoField, hopField}
@@ -26,13 +27,17 @@ use Rattle.answers.specs.declared.Validation.the-variants.{Valid, Invalid}
 use Rattle.answers.specs.declared.IngressNextAction.{IngressNextAction}
 use Rattle.answers.specs.declared.IngressNextAction.the-variants.{ContinueEgress, Complete, Refused as Stopped}
 use Rattle.answers.specs.declared.StepAnswer.the-variants.{Refused}
-use Rattle.answers.proofs.Asked.{first-yes, rest-yes, both-yes, none-asked, goes-on, last-yes}
+use Rattle.answers.proofs.Asked.{first-yes, rest-yes, both-yes, none-asked, goes-on, last-yes, told, asks-told}
 use Rattle.edition.specs.declared.Edition.{Edition}
-use Rattle.answers.specs.Outcome.{asks}
+use Rattle.answers.specs.Outcome.{leaves}
+use Rattle.interface_table.specs.Table.{stateOf}
+use Rattle.routing.specs.Step.{leavingQuestions, stepFrom, step}
+use Rattle.ingress.proofs.Told.{ingress-all-told}
+use Rattle.egress.proofs.Told.{egress-all-told}
 use Rattle.edition.specs.Edition.{peeringPath, peeringQuestions}
 use Rattle.place.specs.Place.{before, segment, ends, isFinal, isPeeringHop, crosses, changes, ingressPlace, wayQuestions, egressPlace, hop, info, nextHop, nextInfo}
 use Rattle.moves.specs.Moves.{ingressSegId, ingressFields, ingressMove, egressMove}
-use Rattle.ingress.specs.Ingress.{ingressQuestions, alertsAtIngress, leaving, ingressAction, decided, ingress}
+use Rattle.ingress.specs.Ingress.{ingressQuestions, alertsAtIngress, leaving, ingressAction, ingress}
 use Rattle.egress.specs.Egress.{egressQuestions, egressAction, egress}
 use Rattle.routing.proofs.Moved.{Holds, asked-alike, ingress-move-holds}
 use Rattle.edition.proofs.Peering.{peering-lengths, peering-path-kept, questions-kept}
@@ -50,10 +55,10 @@ pub record WentOn (edition : Edition) (ids states : List ℕ) (mac : MacFunction
 pub went-on : (edition : Edition) (ids states : List ℕ) (mac : MacFunction) (interface time : ℕ) (unchecked : Bool) (path : List ℕ) (out : ℕ)
     → ingress edition ids states mac (atIngress interface time unchecked) path .answer ≡ ContinueEgress out
     → WentOn edition ids states mac interface time unchecked path out
-unfolding ingress
 went-on edition ids states mac interface time unchecked path out e =
     go (firstNo (before ids states path)) refl (firstNo (ingressPlace edition path)) refl
-    (firstNo (ingressQuestions edition ids states mac at path (changes edition path))) refl e
+    (firstNo (ingressQuestions edition ids states mac at path (changes edition path))) refl
+    (ap (λ o. o .answer) (sym (ingress-all-told edition ids states mac at path)) ∙ e)
   where
     at : StandardValidator
     at = atIngress interface time unchecked
@@ -64,8 +69,8 @@ went-on edition ids states mac interface time unchecked path out e =
     go : (first : Validation) → firstNo (before ids states path) ≡ first
         → (place : Validation) → firstNo (ingressPlace edition path) ≡ place
         → (checks : Validation) → firstNo (ingressQuestions edition ids states mac at path (changes edition path)) ≡ checks
-        → asks Stopped first path
-        (asks Stopped place path (record { answer = decided checks action; bytes = ingressMove edition path interface (changes edition path) }))
+        → told (leaves Stopped path) first
+        (told (leaves Stopped path) place (record { answer = told Stopped checks action; bytes = ingressMove edition path interface (changes edition path) }))
         .answer
         ≡ ContinueEgress out → WentOn edition ids states mac interface time unchecked path out
     go (Invalid why) a place b checks c q = let z : _≡_ {A = ℕ} 0 1 = cc in absurd (omega arith)
@@ -266,7 +271,7 @@ insideQuestions edition path =
 
 place-inside : (edition : Edition) (path : List ℕ) → currHf path < hops path → currInf path < infos path
     → firstNo (peeringQuestions edition path) ≡ Valid → firstNo (egressPlace edition path) ≡ firstNo (insideQuestions edition path)
-unfolding firstNo
+unfolding asks
 place-inside edition path among inside fits =
     rw (lt-ltb _ _ among, lt-ltb _ _ inside, goes-on (peeringQuestions edition path) (wayQuestions edition path) fits)
 
@@ -309,7 +314,7 @@ module _ (edition : Edition) (ids states : List ℕ) (mac : MacFunction) (interf
       go false e q = refl
 
   stay-free : changes edition path ≡ false → firstNo (insideQuestions edition after) ≡ Valid
-  unfolding firstNo ingressMove headerSize
+  unfolding asks ingressMove headerSize
   stay-free stay =
       let s = stands edition ids states path (w .asked) (w .placed) in
       let fields = ingress-fields-moved path (s .inside) edition interface (omega (arith, s .room, s .inside)) in
@@ -333,16 +338,14 @@ module _ (edition : Edition) (ids states : List ℕ) (mac : MacFunction) (interf
   before-again = both-yes _ _ _ (first-yes _ _ _ (w .asked)) (asked-alike held ∙ rest-yes _ _ _ (w .asked))
 
   went-on-bytes : ingress edition ids states mac (atIngress interface time unchecked) path .bytes ≡ after
-  unfolding ingress
-  went-on-bytes = rw (w .asked, w .placed)
+  went-on-bytes = rw (ingress-all-told edition ids states mac (atIngress interface time unchecked) path, w .asked, w .placed)
 
   pub egress-placed : egress edition ids states mac (atEgress out time unchecked) after
-      ≡ asks Refused (firstNo (egressPlace edition after)) after (record { answer = egressAction after; bytes = egressMove edition after })
-  unfolding egress
-  egress-placed = rw (before-again, ready .passes)
+      ≡ told (leaves Refused after) (firstNo (egressPlace edition after)) (record { answer = egressAction after; bytes = egressMove edition after })
+  egress-placed = rw (egress-all-told edition ids states mac (atEgress out time unchecked) after, before-again, ready .passes)
 
   pub egress-after : egress edition ids states mac (atEgress out time unchecked) after
-      ≡ asks Refused (firstNo (insideQuestions edition after)) after (record { answer = egressAction after; bytes = egressMove edition after })
+      ≡ told (leaves Refused after) (firstNo (insideQuestions edition after)) (record { answer = egressAction after; bytes = egressMove edition after })
   egress-after =
       let here : currHf after < hops after = rw (hops-kept (held .kept)) (ready .among) in
       let inside : currInf after < infos after = rw (infos-kept (held .kept)) (ready .inside) in
@@ -360,13 +363,13 @@ module _ (edition : Edition) (ids states : List ℕ) (mac : MacFunction) (interf
   on = went-on edition ids states mac interface time unchecked path out e
 
   egress-inside-placed : egress edition ids states mac (atEgress out time unchecked) left
-      ≡ asks Refused (firstNo (egressPlace edition left)) left (record { answer = egressAction left; bytes = egressMove edition left })
+      ≡ told (leaves Refused left) (firstNo (egressPlace edition left)) (record { answer = egressAction left; bytes = egressMove edition left })
   egress-inside-placed =
       rw (went-on-bytes edition ids states mac interface time unchecked path out on)
       (egress-placed edition ids states mac interface time unchecked path out on)
 
   pub egress-inside : egress edition ids states mac (atEgress out time unchecked) left
-      ≡ asks Refused (firstNo (insideQuestions edition left)) left (record { answer = egressAction left; bytes = egressMove edition left })
+      ≡ told (leaves Refused left) (firstNo (insideQuestions edition left)) (record { answer = egressAction left; bytes = egressMove edition left })
   egress-inside =
       rw (went-on-bytes edition ids states mac interface time unchecked path out on)
       (egress-after edition ids states mac interface time unchecked path out on)
@@ -381,14 +384,26 @@ module _ (edition : Edition) (ids states : List ℕ) (mac : MacFunction) (interf
       (egress-after edition ids states mac interface time unchecked path out on
       ∙ rw (stay-free edition ids states mac interface time unchecked path out on stay))
 
-  pub egress-inside-moved : egress edition ids states mac (atEgress out time unchecked) left
-      ≡ asks Refused (cond (eqb (currHf left) (currHf path)) Valid (firstNo (egressPlace edition left))) left
+  egress-inside-moved : egress edition ids states mac (atEgress out time unchecked) left
+      ≡ told (leaves Refused left) (cond (eqb (currHf left) (currHf path)) Valid (firstNo (egressPlace edition left)))
       (record { answer = egressAction left; bytes = egressMove edition left })
   egress-inside-moved = go (eqb (currHf left) (currHf path)) refl
     where
       go : (same : Bool) → eqb (currHf left) (currHf path) ≡ same
           → egress edition ids states mac (atEgress out time unchecked) left
-          ≡ asks Refused (cond same Valid (firstNo (egressPlace edition left))) left
+          ≡ told (leaves Refused left) (cond same Valid (firstNo (egressPlace edition left)))
           (record { answer = egressAction left; bytes = egressMove edition left })
       go true e = unmoved (eqb-true _ _ e)
       go false e = egress-inside-placed
+
+  -- the whole step: 15 and 17, then egress
+  pub step-goes-on : step edition ids states mac interface time unchecked path
+      ≡ told (leaves Refused left) (firstNo (leavingQuestions (stateOf ids states out) out left))
+      (told (leaves Refused left) (cond (eqb (currHf left) (currHf path)) Valid (firstNo (egressPlace edition left)))
+      (record { answer = egressAction left; bytes = egressMove edition left }))
+  unfolding step stepFrom
+  step-goes-on =
+      rw e
+      (asks-told (leaves Refused left) (leavingQuestions (stateOf ids states out) out left)
+      (egress edition ids states mac (atEgress out time unchecked) left)
+      ∙ ap (told (leaves Refused left) (firstNo (leavingQuestions (stateOf ids states out) out left))) egress-inside-moved)

@@ -10,7 +10,8 @@ use lib.Dec.{eqb}
 use lib.ListN.{drop}
 use Rattle.standard_path.specs.Meta.{currInf, currHf, setCurrInf, setCurrHf}
 use Rattle.fields.specs.Fields.{consDir, peering}
-use Rattle.standard_path.specs.Header.{infos, hops, headerSize, infoField}
+use Rattle.standard_path.specs.Header.{infos, hops, headerSize, infoField, headerQuestions}
+use Rattle.questions.specs.Questions.{within}
 use Rattle.moves.specs.Writes.{clearIngressAlert}
 use Rattle.standard_path.proofs.Kept.{Kept, kept-self, kept-trans, infos-kept, hops-kept, header-size-kept, header-check-kept}
 use Rattle.moves.proofs.SegIdSet.{seg-id-kept, seg-id-past}
@@ -24,10 +25,13 @@ use Rattle.answers.specs.declared.Validation.{Validation}
 use Rattle.answers.specs.declared.Validation.the-variants.{Valid, Invalid}
 use Rattle.answers.specs.declared.IngressNextAction.{IngressNextAction}
 use Rattle.answers.specs.declared.IngressNextAction.the-variants.{ContinueEgress, Complete, Refused}
-use Rattle.answers.proofs.Asked.{first-yes, rest-yes}
+use Rattle.answers.proofs.Asked.{first-yes, rest-yes, told, asks-told}
+use Rattle.answers.specs.declared.StandardRoutingError.the-variants.{HeaderFailed}
 use Rattle.edition.specs.declared.Edition.{Edition}
-use Rattle.answers.specs.Outcome.{Outcome, asks}
-use Rattle.place.specs.Place.{before, headerQuestions, ingressPlace, egressPlace, changes, crosses, info}
+use Rattle.answers.specs.Outcome.{Outcome, leaves}
+use Rattle.ingress.proofs.Told.{ingress-told}
+use Rattle.egress.proofs.Told.{egress-told}
+use Rattle.place.specs.Place.{before, ingressPlace, egressPlace, changes, crosses, info}
 use Rattle.moves.specs.Moves.{stepped, stepsAtIngress, ingressFields, ingressMove, egressAhead, egressMove}
 use Rattle.ingress.specs.Ingress.{ingress}
 use Rattle.egress.specs.Egress.{egress}
@@ -59,7 +63,8 @@ inf-holds : (path : List ℕ) (n : ℕ) → Holds path (setCurrInf path n)
 inf-holds path n = record { kept = set-inf-kept path n; past = set-inf-past path n; flags = λ i l. ap peering (set-inf-info path n i) }
 
 -- 2, 3 and 4 are answered alike
-pub asked-alike : {path after : List ℕ} → Holds path after → firstNo (headerQuestions after) ≡ firstNo (headerQuestions path)
+pub asked-alike : {path after : List ℕ} → Holds path after
+    → firstNo (within HeaderFailed (headerQuestions after)) ≡ firstNo (within HeaderFailed (headerQuestions path))
 asked-alike {path} {after} k = header-law after ∙ ap asValidation (header-check-kept (k .kept)) ∙ sym (header-law path)
 
 -- ---- the moves, where CurrINF and CurrHF are in the header
@@ -113,34 +118,37 @@ module _ (edition : Edition) (path : List ℕ) (inside : currInf path < infos pa
 
 -- two lists of questions, where a no leaves the bytes
 asked-holds : {A : Type 0} (refuse : StandardRoutingError → A) (first place : Validation) (path : List ℕ) (moved : Outcome A)
-    → (place ≡ Valid → Holds path (moved .bytes)) → Holds path (asks refuse first path (asks refuse place path moved) .bytes)
+    → (place ≡ Valid → Holds path (moved .bytes))
+    → Holds path (told (leaves refuse path) first (told (leaves refuse path) place moved) .bytes)
 asked-holds refuse (Invalid why) place path moved h = holds-self path
 asked-holds refuse Valid (Invalid why) path moved h = holds-self path
 asked-holds refuse Valid Valid path moved h = h refl
 
 module _ (edition : Edition) (ids states : List ℕ) (mac : MacFunction) where
   pub ingress-holds : (at : StandardValidator) (path : List ℕ) → Holds path (ingress edition ids states mac at path .bytes)
-  unfolding ingress
   ingress-holds at path =
-      asked-holds Refused (firstNo (before ids states path)) (firstNo (ingressPlace edition path)) path _
+      rw (ingress-told edition ids states mac at path)
+      (asked-holds Refused (firstNo (before ids states path)) (firstNo (ingressPlace edition path)) path _
       (λ e.
       ingress-move-holds edition path
       (ltb-true _ _ (first-yes _ _ _ (rest-yes _ _ _ (rest-yes _ _ _ (rest-yes _ _ _ e)))))
       (ltb-true _ _ (first-yes _ _ _ e))
       (at .«current_interface_id»)
-      (changes edition path))
+      (changes edition path)))
 
   pub egress-holds : (at : StandardValidator) (path : List ℕ) → Holds path (egress edition ids states mac at path .bytes)
-  unfolding egress
   egress-holds at path =
-      asked-holds Stopped (firstNo (before ids states path)) (firstNo (egressPlace edition path)) path _
+      rw (egress-told edition ids states mac at path)
+      (asked-holds Stopped (firstNo (before ids states path)) (firstNo (egressPlace edition path)) path _
       (λ e.
-      egress-move-holds edition path (ltb-true _ _ (first-yes _ _ _ (rest-yes _ _ _ (rest-yes _ _ _ e)))) (ltb-true _ _ (first-yes _ _ _ e)))
+      egress-move-holds edition path (ltb-true _ _ (first-yes _ _ _ (rest-yes _ _ _ (rest-yes _ _ _ e)))) (ltb-true _ _ (first-yes _ _ _ e))))
 
   leave-holds : (at : StandardValidator) (path : List ℕ) → Holds path (leave edition ids states mac at path .bytes)
-  leave-holds at path = go (firstNo (leavingQuestions (stateOf ids states (at .«current_interface_id»)) (at .«current_interface_id») path))
+  leave-holds at path =
+      let asked = leavingQuestions (stateOf ids states (at .«current_interface_id»)) (at .«current_interface_id») path in
+      rw (asks-told (leaves Stopped path) asked (egress edition ids states mac at path)) (go (firstNo asked))
     where
-      go : (first : Validation) → Holds path (asks Stopped first path (egress edition ids states mac at path) .bytes)
+      go : (first : Validation) → Holds path (told (leaves Stopped path) first (egress edition ids states mac at path) .bytes)
       go (Invalid why) = holds-self path
       go Valid = egress-holds at path
 

@@ -7,7 +7,8 @@ use Rattle.standard_path.specs.Meta.{currHf}
 use Rattle.fields.specs.Fields.{consDir}
 use Rattle.interface_table.specs.Table.{stateOf}
 use Rattle.interface_table.specs.declared.Listed.{Listed}
-use Rattle.answers.specs.Questions.{Questions, firstNo}
+use Rattle.questions.specs.Questions.{asks}
+use Rattle.answers.specs.Questions.{Questions}
 use Rattle.validator.specs.Check.{MacFunction, isListed, isUpListed, atIngress, atEgress}
 use Rattle.validator.specs.declared.StandardValidator.{StandardValidator}
 use Rattle.answers.specs.declared.StandardRoutingError.the-variants.{UnknownEgressInterface, EgressInterfaceDown}
@@ -17,7 +18,7 @@ use Rattle.answers.specs.declared.AsRoutingAction.the-variants.{ForwardNextHop}
 use Rattle.answers.specs.declared.StepAnswer.{StepAnswer}
 use Rattle.answers.specs.declared.StepAnswer.the-variants.{Action, Refused}
 use Rattle.edition.specs.declared.Edition.{Edition}
-use Rattle.answers.specs.Outcome.{Outcome, asks}
+use Rattle.answers.specs.Outcome.{Outcome, leaves}
 use Rattle.place.specs.Place.{info}
 use Rattle.ingress.specs.Ingress.{ingress}
 use Rattle.egress.specs.Egress.{egress}
@@ -32,7 +33,7 @@ leavingQuestions listed out path =
 -- 15 and 17, then egress
 abbrev pub leave : Edition → List ℕ → List ℕ → MacFunction → StandardValidator → List ℕ → Outcome StepAnswer
 leave edition ids states mac at path =
-    asks Refused (firstNo (leavingQuestions (stateOf ids states (at .«current_interface_id»)) (at .«current_interface_id») path)) path
+    asks (leaves Refused path) (leavingQuestions (stateOf ids states (at .«current_interface_id»)) (at .«current_interface_id») path)
     (egress edition ids states mac at path)
 
 -- the answer of an ingress that does not go on. `stepFrom` asks it of no other; the last line is there since a function has to answer

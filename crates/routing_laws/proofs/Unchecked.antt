@@ -4,32 +4,32 @@ use mathlib.Core.Path.{_≡_, refl}
 use mathlib.Core.Bool.{Bool, true, false}
 use mathlib.Core.List.{List}
 use Prim.Native.Nat.{ℕ}
-use Rattle.answers.specs.Questions.{firstNo}
+use Rattle.questions.specs.Questions.{asks}
 use Rattle.answers.specs.declared.IngressNextAction.{IngressNextAction}
 use Rattle.answers.specs.declared.IngressNextAction.the-variants.{ContinueEgress, Complete, Refused}
 use Rattle.validator.specs.Check.{MacFunction, atIngress, atEgress}
 use Rattle.edition.specs.declared.Edition.{Edition}
-use Rattle.place.specs.Place.{changes}
-use Rattle.ingress.specs.Ingress.{ingressQuestions, ingress}
+use Rattle.place.specs.Place.{changes, isFinal}
+use Rattle.ingress.specs.Ingress.{ingressQuestions, ingressAction, ingress}
 use Rattle.egress.specs.Egress.{egress}
 use Rattle.routing.specs.Step.{stepFrom, step}
 
 module _ (edition : Edition) (ids states : List ℕ) (mac other : MacFunction) (interface time : ℕ) (path : List ℕ) where
-  questions-unchecked : (change : Bool)
-      → firstNo (ingressQuestions edition ids states mac (atIngress interface time true) path change)
-      ≡ firstNo (ingressQuestions edition ids states other (atIngress interface time true) path change)
-  unfolding firstNo
-  questions-unchecked true = refl
-  questions-unchecked false = refl
+  questions-unchecked : (change : Bool) (action : IngressNextAction)
+      → asks Refused (ingressQuestions edition ids states mac (atIngress interface time true) path change) action
+      ≡ asks Refused (ingressQuestions edition ids states other (atIngress interface time true) path change) action
+  unfolding asks
+  questions-unchecked true action = refl
+  questions-unchecked false action = refl
 
   pub ingress-unchecked : ingress edition ids states mac (atIngress interface time true) path
       ≡ ingress edition ids states other (atIngress interface time true) path
   unfolding ingress
-  ingress-unchecked = rw (questions-unchecked (changes edition path))
+  ingress-unchecked = rw (questions-unchecked (changes edition path) (ingressAction path interface (changes edition path) (isFinal path)))
 
   pub egress-unchecked : egress edition ids states mac (atEgress interface time true) path
       ≡ egress edition ids states other (atEgress interface time true) path
-  unfolding egress firstNo
+  unfolding egress asks
   egress-unchecked = refl
 
 pub step-unchecked : (edition : Edition) (ids states : List ℕ) (mac other : MacFunction) (interface time : ℕ) (path : List ℕ)

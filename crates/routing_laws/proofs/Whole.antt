@@ -1,12 +1,12 @@
 -- The whole step, question by question: in place of two halves one outcome, with the bytes that a no leaves at each place.
 -- Assumes nothing.
-use mathlib.Core.Path.{_≡_, refl}
+use mathlib.Core.Path.{_≡_, refl, ap, _∙_}
 use mathlib.Core.Bool.{Bool, true, false, cond}
 use mathlib.Core.List.{List}
 use Prim.Native.Nat.{ℕ}
 use Rattle.interface_table.specs.Table.{stateOf}
 use Rattle.answers.specs.Questions.{Questions, firstNo}
-use Rattle.validator.specs.Check.{MacFunction, atIngress}
+use Rattle.validator.specs.Check.{MacFunction, atIngress, atEgress}
 use Rattle.answers.specs.declared.Validation.{Validation}
 use Rattle.answers.specs.declared.Validation.the-variants.{Valid, Invalid}
 use Rattle.answers.specs.declared.LocalAsRoutingAction.the-variants.{IngressSCMPHandleRequest, ForwardLocal}
@@ -16,11 +16,13 @@ use Rattle.answers.specs.declared.IngressNextAction.the-variants.{ContinueEgres
 use Rattle.answers.specs.declared.StepAnswer.{StepAnswer}
 use Rattle.answers.specs.declared.StepAnswer.the-variants.{Action, Refused}
 use Rattle.edition.specs.declared.Edition.{Edition}
-use Rattle.answers.specs.Outcome.{Outcome, asks}
+use Rattle.answers.specs.Outcome.{Outcome, leaves}
+use Rattle.answers.proofs.Asked.{told, asks-told}
+use Rattle.ingress.proofs.Told.{ingress-all-told}
 use Rattle.place.specs.Place.{before, isFinal, changes, ingressPlace}
-use Rattle.ingress.specs.Ingress.{ingressQuestions, alertsAtIngress, leaving, ingressAction, decided, ingress}
+use Rattle.ingress.specs.Ingress.{ingressQuestions, alertsAtIngress, leaving, ingressAction, ingress}
 use Rattle.moves.specs.Moves.{ingressMove, egressMove}
-use Rattle.egress.specs.Egress.{egressAction}
+use Rattle.egress.specs.Egress.{egressAction, egress}
 use Rattle.routing.specs.Step.{leavingQuestions, finished, stepFrom, step}
 use Rattle.routing.proofs.Inside.{insideQuestions, egress-after}
 
@@ -41,8 +43,8 @@ module _ (edition : Edition) (ids states : List ℕ) (mac : MacFunction) (interf
   -- egress, once ingress went on
   abbrev pub wayOut : Outcome StepAnswer
   wayOut =
-      asks Refused (firstNo leavingChecks) entered
-      (asks Refused (firstNo (insideQuestions edition entered)) entered
+      told (leaves Refused entered) (firstNo leavingChecks)
+      (told (leaves Refused entered) (firstNo (insideQuestions edition entered))
       (record { answer = egressAction entered; bytes = egressMove edition entered }))
 
   -- with every check passed
@@ -52,33 +54,36 @@ module _ (edition : Edition) (ids states : List ℕ) (mac : MacFunction) (interf
       (cond final (record { answer = Action (Local ForwardLocal); bytes = entered }) wayOut)
 
   pub step-asks : step edition ids states mac interface time unchecked path
-      ≡ asks Refused (firstNo (before ids states path)) path
-      (asks Refused (firstNo (ingressPlace edition path)) path
-      (asks Refused (firstNo checks) entered (acted (alertsAtIngress path interface) (isFinal path))))
-  unfolding step stepFrom finished ingress ingressAction
+      ≡ told (leaves Refused path) (firstNo (before ids states path))
+      (told (leaves Refused path) (firstNo (ingressPlace edition path))
+      (told (leaves Refused entered) (firstNo checks) (acted (alertsAtIngress path interface) (isFinal path))))
+  unfolding step stepFrom finished ingressAction
   step-asks =
-      go (firstNo (before ids states path)) refl (firstNo (ingressPlace edition path)) refl (firstNo checks) refl
-      (alertsAtIngress path interface) refl (isFinal path) refl
+      rw (ingress-all-told edition ids states mac (atIngress interface time unchecked) path)
+      (go (firstNo (before ids states path)) refl (firstNo (ingressPlace edition path)) refl (firstNo checks) refl
+      (alertsAtIngress path interface) refl (isFinal path) refl)
     where
       go : (first : Validation) → firstNo (before ids states path) ≡ first → (place : Validation) → firstNo (ingressPlace edition path) ≡ place
           → (passed : Validation) → firstNo checks ≡ passed → (alert : Bool) → alertsAtIngress path interface ≡ alert
           → (final : Bool) → isFinal path ≡ final
           → let outcome : Outcome IngressNextAction =
-          asks Stopped first path
-          (asks Stopped place path
+          told (leaves Stopped path) first
+          (told (leaves Stopped path) place
           (record {
-            answer = decided passed
+            answer = told Stopped passed
                 (cond alert (Complete (Local (IngressSCMPHandleRequest interface)))
                 (cond final (Complete (Local ForwardLocal)) (ContinueEgress way)));
             bytes = entered;
           })) in
           stepFrom edition (outcome .answer) ids states mac time unchecked (outcome .bytes)
-          ≡ asks Refused first path (asks Refused place path (asks Refused passed entered (acted alert final)))
+          ≡ told (leaves Refused path) first (told (leaves Refused path) place (told (leaves Refused entered) passed (acted alert final)))
       go (Invalid why) a place b passed c alert d final e = refl
       go Valid a (Invalid why) b passed c alert d final e = refl
       go Valid a Valid b (Invalid why) c alert d final e = refl
       go Valid a Valid b Valid c true d final e = refl
       go Valid a Valid b Valid c false d true e = refl
       go Valid a Valid b Valid c false d false e =
-          rw (egress-after edition ids states mac interface time unchecked path way
+          asks-told (leaves Refused entered) leavingChecks (egress edition ids states mac (atEgress way time unchecked) entered)
+          ∙ ap (told (leaves Refused entered) (firstNo leavingChecks))
+          (egress-after edition ids states mac interface time unchecked path way
           (record { asked = a; placed = b; checked = c; going = rw (d, e) }))

@@ -10,12 +10,18 @@ use lib.Seq.{getD-take, getD-drop}
 use denote.Ref.{RefT, now}
 use Rattle.octets.specs.Bytes.{tabulate}
 use Rattle.fields.specs.Fields.{timestamp, expTime, expiry}
-use Rattle.standard_path.specs.Header.{infoField}
-use Rattle.segments.specs.Segments.{hopFields, hopOf, PathSegment, segments, isEnd, started, stepOf, advanced, least, hopExpiry, segmentExpiry, stepExpiry}
+use Rattle.standard_path.specs.Header.{infoField, headerCheck}
+use Rattle.segments.specs.Segments.{hopFields, hopOf, PathSegment, segments, isEnd, started, stepOf, advanced, least, hopExpiry, segmentExpiry, pathExpiry, expiration}
+use Rattle.segments.specs.Inner.{stepExpiry}
 use Rattle.segments.specs.declared.SegmentIterator.{SegmentIterator}
 use Rattle.segments.specs.declared.SegmentStep.{SegmentStep}
 use Rattle.segments.proofs.Range.{range-hop}
 use Rattle.segments.proofs.Walk.{Walk, ends, goes, walk-segments}
+use Rattle.standard_path.proofs.HeaderAsked.{header-asked}
+use Rattle.standard_path.specs.declared.view.HeaderCheck.{HeaderCheck}
+use Rattle.standard_path.specs.declared.view.HeaderCheck.the-variants.{Complete, Failed}
+use Rattle.segments.specs.declared.PathExpiration.{PathExpiration}
+use Rattle.segments.specs.declared.PathExpiration.the-variants.{At, Refused}
 
 pub least-capped : (times : List ℕ) → least times ≤ 4294967295
 least-capped [] = omega arith
@@ -128,3 +134,13 @@ ahead-all lent = record {
   walk = walk-segments lent;
   left = left-all _;
 }
+
+-- ---- the call, by what 2, 3 and 4 come to
+
+abbrev pub afterHeader : ℕ → HeaderCheck → PathExpiration
+afterHeader time Complete = At time
+afterHeader time (Failed error) = Refused error
+
+pub expiration-asked : (path : List ℕ) → expiration path ≡ afterHeader (pathExpiry path) (headerCheck path)
+unfolding expiration
+expiration-asked path = sym (header-asked (afterHeader (pathExpiry path)) path)

@@ -7,19 +7,18 @@ use mathlib.Core.List.{List, [], _∷_, map}
 use lib.Dec.{eqb, ltb, leb}
 use lib.ListN.{length, getD, take, drop}
 use denote.Ref.{RefT, now}
+use Rattle.questions.specs.Questions.{asks}
 use Rattle.octets.specs.Bytes.{tabulate}
 use Rattle.standard_path.specs.Meta.{seg0Len, seg1Len, seg2Len}
 use Rattle.fields.specs.Fields.{timestamp, expTime, expiry}
 use Rattle.fields.specs.Layout.{hopOffset}
-use Rattle.standard_path.specs.Header.{infos, hops, infoField, hopField, headerCheck}
-use Rattle.standard_path.specs.declared.view.HeaderCheck.{HeaderCheck}
-use Rattle.standard_path.specs.declared.view.HeaderCheck.the-variants as check
+use Rattle.standard_path.specs.Header.{infos, hops, infoField, hopField, headerNumber, headerQuestions}
 use Rattle.segments.specs.declared.SegmentPlace.{SegmentPlace}
 use Rattle.segments.specs.declared.SegmentStep.{SegmentStep}
 use Rattle.segments.specs.declared.SegmentStep.the-variants.{Segment, End}
 use Rattle.segments.specs.declared.SegmentIterator.{SegmentIterator}
 use Rattle.segments.specs.declared.PathExpiration.{PathExpiration}
-use Rattle.segments.specs.declared.PathExpiration.the-variants.{At, MetaTooShort, DataTooShort, TooManyHops}
+use Rattle.segments.specs.declared.PathExpiration.the-variants.{At, Refused}
 
 -- ---- the segments
 
@@ -98,28 +97,15 @@ hopExpiry path info hop = expiry (timestamp (infoField path info)) (expTime (hop
 unfoldable pub segmentExpiry : List ℕ → PathSegment → ℕ
 segmentExpiry path segment = least (tabulate (segment .count) (segment .first) (hopExpiry path (segment .info)))
 
--- for the contract of an inner function: the expiry of the segment that a step gave, the cap for an end
-abbrev pub stepExpiry : List ℕ → SegmentStep → ℕ
-stepExpiry path (Segment info first count behind) = segmentExpiry path (record { info = info; first = first; count = count })
-stepExpiry path End = 4294967295
-
 -- the least expiry over the segments, 0 if there are none
 unfoldable pub pathExpiry : List ℕ → ℕ
 pathExpiry path = cond (eqb (segmentCount path) 0) 0 (least (map (segmentExpiry path) (segments path)))
 
 -- questions 2, 3 and 4 first
-abbrev pub expirationAfter : HeaderCheck → ℕ → PathExpiration
-expirationAfter check.Complete time = At time
-expirationAfter check.MetaTooShort time = MetaTooShort
-expirationAfter check.DataTooShort time = DataTooShort
-expirationAfter check.TooManyHops time = TooManyHops
-
 unfoldable pub expiration : List ℕ → PathExpiration
-expiration path = expirationAfter (headerCheck path) (pathExpiry path)
+expiration path = asks Refused (headerQuestions path) (At (pathExpiry path))
 
 -- 01's number of a refusal; 0 for a time
 abbrev pub expirationNumber : PathExpiration → ℕ
 expirationNumber (At time) = 0
-expirationNumber MetaTooShort = 2
-expirationNumber DataTooShort = 3
-expirationNumber TooManyHops = 4
+expirationNumber (Refused error) = headerNumber error

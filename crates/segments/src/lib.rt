@@ -8,6 +8,7 @@
 use fields::layout::HopFieldLayout;
 use standard_path::view;
 use standard_path::view::HeaderCheck;
+use standard_path::view::HeaderError;
 ghost use mathlib.Core.Path.{_≡_};
 ghost use mathlib.Core.List.{map};
 ghost use Prim.Native.Nat.{min};
@@ -15,7 +16,8 @@ ghost use lib.Dec.{eqb};
 ghost use Rattle.standard_path.specs.Header.{hops, infoField};
 ghost use Rattle.segments.specs.Segments.{segments, segmentCount, segLen, hopFields, hopOf, nextSegment, placeAfter, isEnd};
 ghost use Rattle.segments.specs.Segments.{started, stepOf, advanced};
-ghost use Rattle.segments.specs.Segments.{least, segmentExpiry, stepExpiry, pathExpiry, expiration, expirationNumber};
+ghost use Rattle.segments.specs.Segments.{least, segmentExpiry, pathExpiry, expiration, expirationNumber};
+ghost use Rattle.segments.specs.Inner.{stepExpiry};
 
 // ---- the segments
 
@@ -282,9 +284,7 @@ fn path_expiry(path: &[u8]) -> u32
 // When the path ends, in seconds of Unix time; or the first of 01's questions 2, 3 and 4 that is answered no.
 pub enum PathExpiration {
     At(u32),
-    MetaTooShort,
-    DataTooShort,
-    TooManyHops,
+    Refused(HeaderError),
 }
 
 pub fn expiration(path: &[u8]) -> PathExpiration
@@ -292,9 +292,7 @@ pub fn expiration(path: &[u8]) -> PathExpiration
 {
     match view::check_header(path) {
         HeaderCheck::Complete => PathExpiration::At(path_expiry(path)),
-        HeaderCheck::MetaTooShort => PathExpiration::MetaTooShort,
-        HeaderCheck::DataTooShort => PathExpiration::DataTooShort,
-        HeaderCheck::TooManyHops => PathExpiration::TooManyHops,
+        HeaderCheck::Failed(error) => PathExpiration::Refused(error),
     }
 }
 
@@ -304,8 +302,6 @@ pub fn expiration_number(answer: PathExpiration) -> u8
 {
     match answer {
         PathExpiration::At(_) => 0,
-        PathExpiration::MetaTooShort => 2,
-        PathExpiration::DataTooShort => 3,
-        PathExpiration::TooManyHops => 4,
+        PathExpiration::Refused(error) => view::header_number(error),
     }
 }

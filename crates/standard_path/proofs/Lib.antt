@@ -1,3 +1,4 @@
 pub mod Parts
 pub mod Kept
 pub mod IndexSet
+pub mod HeaderAsked

@@ -3,15 +3,18 @@
 -- Assumes nothing.
 use Prim.Native.Nat.{ℕ, _+_}
 use mathlib.Core.Bool.{Bool, cond}
-use mathlib.Core.List.{List}
+use mathlib.Core.List.{List, [], _∷_}
 use lib.Dec.{eqb, ltb, leb}
 use lib.ListN.{length, take, drop}
+use Rattle.questions.specs.Questions.{Questions, asks}
 use Rattle.fields.specs.Layout.{infoCount, hopCount, infoOffset, hopOffset}
 use Rattle.standard_path.specs.Meta.{seg0Len, seg1Len, seg2Len}
 use Rattle.standard_path.specs.declared.view.SegmentIndex.{SegmentIndex}
 use Rattle.standard_path.specs.declared.view.SegmentIndex.the-variants.{At, OutOfBounds}
 use Rattle.standard_path.specs.declared.view.HeaderCheck.{HeaderCheck}
-use Rattle.standard_path.specs.declared.view.HeaderCheck.the-variants.{Complete, MetaTooShort, DataTooShort, TooManyHops}
+use Rattle.standard_path.specs.declared.view.HeaderCheck.the-variants.{Complete, Failed}
+use Rattle.standard_path.specs.declared.view.HeaderError.{HeaderError}
+use Rattle.standard_path.specs.declared.view.HeaderError.the-variants.{MetaTooShort, DataTooShort, TooManyHops}
 
 -- 'Info fields are as many as the nonzero lengths'
 unfoldable pub infos : List ℕ → ℕ
@@ -41,9 +44,17 @@ fieldsThere path = leb (headerSize path) (length path)
 abbrev pub hopsFew : List ℕ → Bool
 hopsFew path = leb (hops path) 64
 
+abbrev pub headerQuestions : List ℕ → Questions HeaderError
+headerQuestions path =
+    (metaThere path, MetaTooShort) ∷ (fieldsThere path, DataTooShort) ∷ (hopsFew path, TooManyHops) ∷ []
+
+abbrev pub headerNumber : HeaderError → ℕ
+headerNumber MetaTooShort = 2
+headerNumber DataTooShort = 3
+headerNumber TooManyHops = 4
+
 unfoldable pub headerCheck : List ℕ → HeaderCheck
-headerCheck path =
-    cond (metaThere path) (cond (fieldsThere path) (cond (hopsFew path) Complete TooManyHops) DataTooShort) MetaTooShort
+headerCheck path = asks Failed (headerQuestions path) Complete
 
 -- ---- a segment is known by its place among the three lengths, empty ones counted
 

@@ -12,7 +12,8 @@ ghost use Prim.Native.Nat.{_<_};
 ghost use lib.ListN.{take, drop};
 ghost use Rattle.fields.specs.Layout.{nonzero, hopOffset};
 ghost use Rattle.standard_path.specs.Meta.{currInf, currHf, seg0Len, seg1Len, seg2Len, setCurrInf, setCurrHf};
-ghost use Rattle.standard_path.specs.Header.{infos, hops, infoField, hopField, headerCheck, segmentAmong, segmentIndex};
+ghost use Rattle.standard_path.specs.Header.{infos, hops, infoField, hopField, headerNumber, headerCheck};
+ghost use Rattle.standard_path.specs.Header.{segmentAmong, segmentIndex};
 
 // ---- the meta word
 
@@ -154,26 +155,41 @@ pub fn curr_hop_field(path: &[u8]) -> &[u8]
 
 // ---- the header as a whole
 
-// Whether the bytes hold the whole header, and it has at most 64 hops: 01's questions 2, 3 and 4.
-pub enum HeaderCheck {
-    Complete,
+// Why a header is turned down: 01's questions 2, 3 and 4.
+pub enum HeaderError {
     MetaTooShort,
     DataTooShort,
     TooManyHops,
+}
+
+pub fn header_number(error: HeaderError) -> u8
+    ensures { λ r. ⌜ r ≡ headerNumber error ⌝ }
+{
+    match error {
+        HeaderError::MetaTooShort => 2,
+        HeaderError::DataTooShort => 3,
+        HeaderError::TooManyHops => 4,
+    }
+}
+
+// Whether the bytes hold the whole header, and it has at most 64 hops.
+pub enum HeaderCheck {
+    Complete,
+    Failed(HeaderError),
 }
 
 pub fn check_header(path: &[u8]) -> HeaderCheck
     ensures { λ r. ⌜ r ≡ headerCheck (now (path .entry)) ⌝ }
 {
     if path.len() < StdPathMetaLayout::SIZE_BYTES {
-        return HeaderCheck::MetaTooShort;
+        return HeaderCheck::Failed(HeaderError::MetaTooShort);
     }
     let hops = hop_field_count(path);
     if path.len() < HopFieldLayout::offset(info_field_count(path), hops) {
-        return HeaderCheck::DataTooShort;
+        return HeaderCheck::Failed(HeaderError::DataTooShort);
     }
     if StdPathMetaLayout::MAX_TOTAL_HOPS < hops {
-        return HeaderCheck::TooManyHops;
+        return HeaderCheck::Failed(HeaderError::TooManyHops);
     }
     HeaderCheck::Complete
 }

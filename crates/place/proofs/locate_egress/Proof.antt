@@ -5,6 +5,7 @@ use mathlib.Core.List.{List}
 use Prim.Native.Nat.{ℕ, _<_}
 use borrow.Author.Tests.{lt-ltb, le-ltb, le-leb, lt-leb, eq-eqb, ne-eqb, not-true, not-false}
 use denote.Ref.{now}
+use Rattle.questions.specs.Questions.{asks}
 use Rattle.standard_path.specs.Meta.{currInf, currHf}
 use Rattle.standard_path.specs.Header.{infos}
 use Rattle.answers.specs.Questions.{firstNo}
@@ -19,7 +20,7 @@ use Rattle.place.proofs.locate_egress.Tie as tie
 -- 5, 7 and 8 had a yes, by what was read
 stood : (path : List ℕ) {index actual count : ℕ} {start end : Bool} → Lies path (currHf path) index start end → actual ≡ currInf path
     → count ≡ infos path → index ≡ actual → actual < count → firstNo (placeQuestions path) ≡ Valid
-unfolding firstNo
+unfolding asks
 stood path l a n e inside = rw (l .inside, l .segment, ← a, eq-eqb _ _ e, ← n, lt-ltb _ _ inside)
 
 -- and so the rest decides
@@ -28,7 +29,7 @@ on : (path : List ℕ) (fits crossing : Bool) → firstNo (placeQuestions path) 
 on path fits crossing here = goes-on (placeQuestions path) (onwardBy path fits crossing) here
 
 returns : tie.Need-returns
-unfolding firstNo
+unfolding asks
 returns c =
     let args = c .before .before .before .before .before .before .before .before .args in
     let curr-hop-field-idx = c .before .before .before .before .before .before .curr-hop-field-idx in
@@ -38,7 +39,7 @@ returns c =
     (rw (curr-hop-field-idx .ensures) at (c .refused .ensures))
 
 returns-2 : tie.Need-returns-2
-unfolding firstNo
+unfolding asks
 returns-2 c =
     let args = c .before .before .before .before .before .before .before .before .before .before .before .args in
     let curr-hop-field-idx = c .before .before .before .before .before .before .before .before .before .curr-hop-field-idx in
@@ -49,7 +50,7 @@ returns-2 c =
     rw (l .inside, l .segment, ← c .before .before .curr-info-field-idx .ensures, ne-eqb _ _ (c .before .if1 .taken)) (c .refused2 .ensures)
 
 returns-3 : tie.Need-returns-3
-unfolding firstNo
+unfolding asks
 returns-3 c =
     let args = c .before .before .before .before .before .before .before .before .before .before .before .before .args in
     let curr-hop-field-idx = c .before .before .before .before .before .before .before .before .before .before .curr-hop-field-idx in
@@ -63,7 +64,7 @@ returns-3 c =
     (c .refused3 .ensures)
 
 returns-4 : tie.Need-returns-4
-unfolding firstNo
+unfolding asks
 returns-4 c =
     let args = c .before .before .before .before .before .before .before .before .before .before .before .before .before .args in
     let curr-hop-field-idx = c .before .before .before .before .before .before .before .before .before .before .before .curr-hop-field-idx in
@@ -78,7 +79,7 @@ returns-4 c =
     rw (on (now (args .path)) (args .fits) (args .crossing) here, not-true (args .fits) (c .before .if3 .taken)) (c .refused4 .ensures)
 
 returns-5 : tie.Need-returns-5
-unfolding firstNo
+unfolding asks
 returns-5 c =
     let args = c .before .before .before .before .before .before .before .before .before .before .before .before .before .before .args in
     let curr-hop-field-idx = c .before .before .before .before .before .before .before .before .before .before .before .before .curr-hop-field-idx in
@@ -96,7 +97,7 @@ returns-5 c =
     (rw (← hop-field-count .ensures, ← curr-hop-field-idx .ensures, le-leb _ _ (c .before .if4 .taken)) (c .refused5 .ensures))
 
 returns-6 : tie.Need-returns-6
-unfolding firstNo
+unfolding asks
 returns-6 c =
     let args = c .before .before .before .before .before .before .before .before .before .before .before .before .before .before .before .before .args in
     let curr-hop-field-idx = c .before .before .before .before .before .before .before .before .before .before .before .before .before .before .curr-hop-field-idx in
@@ -116,7 +117,7 @@ returns-6 c =
     (rw (l .segment, l .last, c .before .before .if5 .taken, not-true (args .crossing) (c .before .if6 .taken), ← hop-field-count .ensures, ← curr-hop-field-idx .ensures, lt-leb _ _ (if4 .left)) (c .refused6 .ensures))
 
 returns-7 : tie.Need-returns-7
-unfolding firstNo
+unfolding asks
 returns-7 c =
     let args = c .before .before .before .before .before .before .before .before .before .before .before .before .before .before .before .args in
     let curr-hop-field-idx = c .before .before .before .before .before .before .before .before .before .before .before .before .before .curr-hop-field-idx in
@@ -135,7 +136,7 @@ returns-7 c =
     (rw (not-false (args .crossing) (c .if6 .left), ← hop-field-count .ensures, ← curr-hop-field-idx .ensures, lt-leb _ _ (c .before .before .if4 .left)))
 
 returns-8 : tie.Need-returns-8
-unfolding firstNo
+unfolding asks
 returns-8 c =
     let args = c .before .before .before .before .before .before .before .before .before .before .before .before .before .before .args in
     let curr-hop-field-idx = c .before .before .before .before .before .before .before .before .before .before .before .before .curr-hop-field-idx in

@@ -2,6 +2,7 @@ use borrow.Author.Needs.{needs}
 use mathlib.Core.Path.{sym, _∙_}
 use borrow.Author.Tests.{lt-ltb, le-ltb, eq-eqb, ne-eqb}
 use denote.Ref.{now}
+use Rattle.questions.specs.Questions.{asks}
 use Rattle.standard_path.specs.Meta.{currHf}
 use Rattle.answers.specs.Questions.{firstNo}
 use Rattle.place.proofs.Places.{lies, lies-nowhere, allowed, alone-no}
@@ -9,7 +10,7 @@ use Rattle.place.proofs.locate_ingress.Statement.{statement}
 use Rattle.place.proofs.locate_ingress.Tie as tie
 
 returns : tie.Need-returns
-unfolding firstNo
+unfolding asks
 returns c =
     let args = c .before .before .before .before .before .before .before .before .args in
     let curr-hop-field-idx = c .before .before .before .before .curr-hop-field-idx in
@@ -19,7 +20,7 @@ returns c =
     (rw (curr-hop-field-idx .ensures) at (c .failed .ensures))
 
 returns-2 : tie.Need-returns-2
-unfolding firstNo
+unfolding asks
 returns-2 c =
     let args = c .before .before .before .before .before .before .before .before .before .before .args in
     let peeringPath = c .before .before .before .before .before .before .before .before .is-peering-path in
@@ -32,7 +33,7 @@ returns-2 c =
     rw (l .inside, l .segment, l .first, l .last, ← peeringPath .ensures, refused) (c .failed2 .ensures)
 
 returns-3 : tie.Need-returns-3
-unfolding firstNo
+unfolding asks
 returns-3 c =
     let args = c .before .before .before .before .before .before .before .before .before .before .before .before .args in
     let peeringPath = c .before .before .before .before .before .before .before .before .before .before .is-peering-path in
@@ -57,7 +58,7 @@ returns-3 c =
     ) (c .failed3 .ensures)
 
 returns-4 : tie.Need-returns-4
-unfolding firstNo
+unfolding asks
 returns-4 c =
     let args = c .before .before .before .before .before .before .before .before .before .before .before .before .before .before .args in
     let peeringPath = c .before .before .before .before .before .before .before .before .before .before .before .before .is-peering-path in
@@ -86,7 +87,7 @@ returns-4 c =
     ) (c .failed4 .ensures)
 
 returns-5 : tie.Need-returns-5
-unfolding firstNo
+unfolding asks
 returns-5 c =
     let args = c .before .before .before .before .before .before .before .before .before .before .before .before .before .before .before .before .before .args in
     let peeringPath = c .before .before .before .before .before .before .before .before .before .before .before .before .before .before .before .is-peering-path in
@@ -122,7 +123,7 @@ returns-5 c =
     (c .failed5 .ensures)
 
 returns-6 : tie.Need-returns-6
-unfolding firstNo
+unfolding asks
 returns-6 c =
     let args = c .before .before .before .before .before .before .before .before .before .before .before .before .before .before .before .before .before .args in
     let peeringPath = c .before .before .before .before .before .before .before .before .before .before .before .before .before .before .before .is-peering-path in
@@ -156,7 +157,7 @@ returns-6 c =
     ) (c .placed .ensures)
 
 returns-7 : tie.Need-returns-7
-unfolding firstNo
+unfolding asks
 returns-7 c =
     let args = c .before .before .before .before .before .before .before .before .before .before .before .before .before .before .before .before .args in
     let peeringPath = c .before .before .before .before .before .before .before .before .before .before .before .before .before .before .is-peering-path in

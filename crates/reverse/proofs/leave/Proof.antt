@@ -1,7 +1,11 @@
 use borrow.Author.Needs.{needs}
+use borrow.Author.Needs.{needs}
 use Rattle.reverse.specs.Reverse.{bytesLeft}
 use Rattle.reverse.proofs.leave.Statement.{statement}
 use Rattle.reverse.proofs.leave.Tie as tie
+use Rattle.reverse.proofs.leave.Reads as reads
+use Rattle.reverse.proofs.leave.Lts as lts
+use Rattle.reverse.proofs.swap_lengths.Reads as swap-lengths-reads
 
 returns : tie.Need-returns
 unfolding bytesLeft
@@ -13,19 +17,11 @@ returns-2 c = rw (c .enum-told2 .given .1)
 
 returns-3 : tie.Need-returns-3
 unfolding bytesLeft
-returns-3 c = rw (c .enum-told3 .given .1)
+returns-3 c = rw (c .before .before .before .before .enum-told3 .given .1) (c .before .before .swap-lengths .ensures)
 
 returns-4 : tie.Need-returns-4
 unfolding bytesLeft
-returns-4 c = rw (c .enum-told4 .given .1)
-
-returns-5 : tie.Need-returns-5
-unfolding bytesLeft
-returns-5 c = rw (c .before .before .before .before .enum-told5 .given .1) (c .before .before .swap-lengths .ensures)
-
-returns-6 : tie.Need-returns-6
-unfolding bytesLeft
-returns-6 c = rw (c .before .before .before .before .enum-told6 .given .1) (c .before .before .swap-lengths2 .ensures)
+returns-4 c = rw (c .before .before .before .before .enum-told4 .given .1) (c .before .before .swap-lengths2 .ensures)
 
 pub leave-spec : {M : Type 1} → statement M
 leave-spec =
@@ -34,16 +30,12 @@ leave-spec =
     (λ c. search needs)
     (λ c. search needs)
     (λ c. search needs)
-    (λ c. search needs)
-    (λ c. search needs)
     (λ c κs. search needs)
     (λ c. search needs)
     (λ c κs. search needs)
     returns
     returns-2
+    (λ c. search needs)
     returns-3
-    returns-4
     (λ c. search needs)
-    returns-5
-    (λ c. search needs)
-    returns-6)
+    returns-4)

@@ -3,7 +3,7 @@ use mathlib.Core.Path.{_≡_, sym, ap, _∙_}
 use Prim.Native.Nat.{min}
 use native.Mathlib.Omega.{arith}
 use denote.Ref.{now}
-use Rattle.segments.specs.Segments.{stepExpiry}
+use Rattle.segments.specs.Inner.{stepExpiry}
 use Rattle.segments.proofs.earlier.Statement.{statement}
 use Rattle.segments.proofs.earlier.Tie as tie
 

@@ -57,7 +57,8 @@ use denote.Triple.Walked.{says, Stays, stay-none-slice, walkOf, goes-none-slice,
 use denote.Exit.{yes}
 use denote.Triple.Clauses.{ensured, lasts}
 use Rattle.segments.specs.Segments as spec
-use Rattle.segments.specs.Segments.{segments, isEnd, started, stepOf, advanced, segmentExpiry, stepExpiry}
+use Rattle.segments.specs.Segments.{segments, isEnd, started, stepOf, advanced, segmentExpiry}
+use Rattle.segments.specs.Inner.{stepExpiry}
 use Rattle.segments.specs.declared.SegmentIterator.{SegmentIterator}
 use Rattle.segments.specs.declared.SegmentStep.{SegmentStep}
 use Rattle.segments.proofs.Expiry.{Ahead, ahead-all, ahead-none, further, on-from}

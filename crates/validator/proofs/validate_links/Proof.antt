@@ -1,20 +1,21 @@
 use borrow.Author.Needs.{needs}
+use Rattle.questions.specs.Questions.{asks}
 use Rattle.answers.specs.Questions.{firstNo}
 use Rattle.validator.proofs.validate_links.Statement.{statement}
 use Rattle.validator.proofs.validate_links.Tie as tie
 
 returns : tie.Need-returns
-unfolding firstNo
+unfolding asks
 returns c = rw (c .before .before .enum-told .given .1, c .before .ingress-interface .ensures, c .cons-dir .ensures)
 
 returns-2 : tie.Need-returns-2
-unfolding firstNo
+unfolding asks
 returns-2 c =
     let listed-in = c .before .before .before .before .before .listed-in in
     rw (listed-in .given .1, c .before .before .enum-told2 .given .1, c .before .egress-interface .ensures, c .cons-dir2 .ensures)
 
 returns-3 : tie.Need-returns-3
-unfolding firstNo
+unfolding asks
 returns-3 c =
     let listed-in = c .before .before .before .before .before .before .before .before .listed-in in
     let listed-out = c .before .before .before .before .before .listed-out in
@@ -22,7 +23,7 @@ returns-3 c =
     rw (listed-in .given .1, listed-out .given .1, ← link-type .ensures, ← c .before .before .link-type2 .ensures, ← c .before .is-allowed-pair .ensures, c .if1 .taken)
 
 returns-4 : tie.Need-returns-4
-unfolding firstNo
+unfolding asks
 returns-4 c =
     let listed-in = c .before .before .before .before .before .before .before .before .listed-in in
     let listed-out = c .before .before .before .before .before .listed-out in

@@ -1,21 +1,22 @@
 use borrow.Author.Needs.{needs}
+use Rattle.questions.specs.Questions.{asks}
 use Rattle.answers.specs.Questions.{firstNo}
 use Rattle.validator.proofs.validate_segment_change.Statement.{statement}
 use Rattle.validator.proofs.validate_segment_change.Tie as tie
 
 returns : tie.Need-returns
-unfolding firstNo
+unfolding asks
 returns c = rw (← c .before .before .egress-scmp-alert .ensures, c .before .if1 .taken, c .cons-dir .ensures)
 
 returns-2 : tie.Need-returns-2
-unfolding firstNo
+unfolding asks
 returns-2 c =
     let egress-scmp-alert = c .before .before .before .before .egress-scmp-alert in
     let if1 = c .before .before .before .if1 in
     rw (← egress-scmp-alert .ensures, if1 .left, ← c .before .before .ingress-scmp-alert .ensures, c .before .if2 .taken, c .cons-dir2 .ensures)
 
 returns-3 : tie.Need-returns-3
-unfolding firstNo
+unfolding asks
 returns-3 c =
     let egress-scmp-alert = c .before .before .before .before .before .before .before .before .egress-scmp-alert in
     let if1 = c .before .before .before .before .before .before .before .if1 in

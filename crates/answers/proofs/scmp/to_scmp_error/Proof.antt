@@ -1,7 +1,11 @@
 use borrow.Author.Needs.{needs}
+use borrow.Author.Needs.{needs}
 use Rattle.answers.specs.Scmp.{toScmpError}
 use Rattle.answers.proofs.scmp.to_scmp_error.Statement.{statement}
 use Rattle.answers.proofs.scmp.to_scmp_error.Tie as tie
+use Rattle.answers.proofs.scmp.to_scmp_error.Reads as reads
+use Rattle.answers.proofs.scmp.to_scmp_error.Lts as lts
+use Rattle.answers.proofs.scmp.interface_error.Reads as interface-error-reads
 
 returns : tie.Need-returns
 unfolding toScmpError
@@ -17,27 +21,27 @@ returns-3 c = rw (c .enum-told3 .given .1)
 
 returns-4 : tie.Need-returns-4
 unfolding toScmpError
-returns-4 c = rw (c .enum-told4 .given .1)
+returns-4 c = rw (c .before .before .why .given .1) (c .interface-error .ensures)
 
 returns-5 : tie.Need-returns-5
 unfolding toScmpError
-returns-5 c = rw (c .enum-told5 .given .1)
+returns-5 c = rw (c .before .before .why2 .given .1) (c .interface-error2 .ensures)
 
 returns-6 : tie.Need-returns-6
 unfolding toScmpError
-returns-6 c = rw (c .before .before .why .given .1) (c .interface-error .ensures)
+returns-6 c = rw (c .before .before .why3 .given .1) (c .interface-error3 .ensures)
 
 returns-7 : tie.Need-returns-7
 unfolding toScmpError
-returns-7 c = rw (c .before .before .why2 .given .1) (c .interface-error2 .ensures)
+returns-7 c = rw (c .before .before .why4 .given .1) (c .interface-error4 .ensures)
 
 returns-8 : tie.Need-returns-8
 unfolding toScmpError
-returns-8 c = rw (c .before .before .why3 .given .1) (c .interface-error3 .ensures)
+returns-8 c = rw (c .enum-told4 .given .1)
 
 returns-9 : tie.Need-returns-9
 unfolding toScmpError
-returns-9 c = rw (c .before .before .why4 .given .1) (c .interface-error4 .ensures)
+returns-9 c = rw (c .enum-told5 .given .1)
 
 returns-10 : tie.Need-returns-10
 unfolding toScmpError
@@ -53,22 +57,12 @@ returns-12 c = rw (c .enum-told8 .given .1)
 
 returns-13 : tie.Need-returns-13
 unfolding toScmpError
-returns-13 c = rw (c .enum-told9 .given .1)
-
-returns-14 : tie.Need-returns-14
-unfolding toScmpError
-returns-14 c = rw (c .enum-told10 .given .1)
-
-returns-15 : tie.Need-returns-15
-unfolding toScmpError
-returns-15 c = rw (c .before .why5 .given .1)
+returns-13 c = rw (c .before .why5 .given .1)
 
 pub to-scmp-error-spec : {M : Type 1} → statement M
 to-scmp-error-spec =
     tie.close
     (tie.spec
-    (λ c. search needs)
-    (λ c. search needs)
     (λ c. search needs)
     (λ c. search needs)
     (λ c. search needs)
@@ -98,6 +92,4 @@ to-scmp-error-spec =
     returns-10
     returns-11
     returns-12
-    returns-13
-    returns-14
-    returns-15)
+    returns-13)

@@ -1,8 +1,8 @@
 use borrow.Author.Needs.{needs}
 use mathlib.Core.Path.{refl, sym, _∙_}
-use Rattle.routing.specs.Step.{step, stepFrom}
+use Rattle.routing.specs.Step.{step}
 use Rattle.routing.proofs.Steps.{leaves, stays}
-use Rattle.routing.proofs.Inside.{egress-inside-moved}
+use Rattle.routing.proofs.Inside.{step-goes-on}
 use Rattle.routing.proofs.step.handle_standard_path.Statement.{statement}
 use Rattle.routing.proofs.step.handle_standard_path.Tie as tie
 
@@ -16,21 +16,18 @@ returns c =
     )
 
 returns-2 : tie.Need-returns-2
-unfolding step stepFrom
 returns-2 c =
     let standard-path-ingress = c .before .before .before .before .before .before .before .before .before .before .standard-path-ingress in
     let next-action = c .before .before .before .before .before .before .next-action in
     let validate-leaving = c .before .before .before .validate-leaving in
     rw (
-      ← standard-path-ingress .ensures .0,
-      next-action .given .1,
+      step-goes-on _ _ _ _ _ _ _ _ _ (sym (standard-path-ingress .ensures .0) ∙ next-action .given .1),
       ← standard-path-ingress .ensures .1,
       ← validate-leaving .ensures,
       c .before .why .given .1,
     ) (refl, refl)
 
 returns-3 : tie.Need-returns-3
-unfolding step stepFrom
 returns-3 c =
     let curr-hop-field-idx = c .before .before .before .before .before .before .before .before .before .before .before .before .before .before .before .before .curr-hop-field-idx in
     let standard-path-ingress = c .before .before .before .before .before .before .before .before .before .before .before .before .before .before .standard-path-ingress in
@@ -39,9 +36,7 @@ returns-3 c =
     let enum-told = c .before .before .before .before .before .enum-told in
     let validate-place = c .before .before .before .validate-place in
     rw (
-      ← standard-path-ingress .ensures .0,
-      next-action .given .1,
-      egress-inside-moved _ _ _ _ _ _ _ _ _ (sym (standard-path-ingress .ensures .0) ∙ next-action .given .1),
+      step-goes-on _ _ _ _ _ _ _ _ _ (sym (standard-path-ingress .ensures .0) ∙ next-action .given .1),
       ← standard-path-ingress .ensures .1,
       ← validate-leaving .ensures,
       enum-told .given .1,
@@ -51,7 +46,6 @@ returns-3 c =
     ) (refl, refl)
 
 returns-4 : tie.Need-returns-4
-unfolding step stepFrom
 returns-4 c =
     let curr-hop-field-idx = c .before .before .before .before .before .before .before .before .before .before .before .before .before .before .before .before .before .before .before .curr-hop-field-idx in
     let standard-path-ingress = c .before .before .before .before .before .before .before .before .before .before .before .before .before .before .before .before .before .standard-path-ingress in
@@ -61,9 +55,7 @@ returns-4 c =
     let validate-place = c .before .before .before .before .before .before .validate-place in
     let enum-told2 = c .before .before .before .before .enum-told2 in
     rw (
-      ← standard-path-ingress .ensures .0,
-      next-action .given .1,
-      egress-inside-moved _ _ _ _ _ _ _ _ _ (sym (standard-path-ingress .ensures .0) ∙ next-action .given .1),
+      step-goes-on _ _ _ _ _ _ _ _ _ (sym (standard-path-ingress .ensures .0) ∙ next-action .given .1),
       ← standard-path-ingress .ensures .1,
       ← validate-leaving .ensures,
       enum-told .given .1,

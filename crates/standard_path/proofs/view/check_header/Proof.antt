@@ -1,17 +1,18 @@
 use borrow.Author.Needs.{needs}
 use mathlib.Core.Path.{ap₂, _∙_}
 use borrow.Author.Tests.{lt-leb, le-leb}
+use Rattle.questions.specs.Questions.{asks}
 use Rattle.fields.specs.Layout.{hopOffset}
 use Rattle.standard_path.specs.Header.{headerSize, headerCheck}
 use Rattle.standard_path.proofs.view.check_header.Statement.{statement}
 use Rattle.standard_path.proofs.view.check_header.Tie as tie
 
 returns : tie.Need-returns
-unfolding headerCheck
+unfolding asks headerCheck
 returns c = simp (lt-leb _ _ (c .if1 .taken))
 
 returns-2 : tie.Need-returns-2
-unfolding headerCheck headerSize
+unfolding asks headerCheck headerSize
 returns-2 c =
     let if1 = c .before .before .before .before .if1 in
     let hop-field-count = c .before .before .before .hop-field-count in
@@ -19,7 +20,7 @@ returns-2 c =
     simp (le-leb _ _ (if1 .left), lt-leb _ _ (rw e at (c .if2 .taken)))
 
 returns-3 : tie.Need-returns-3
-unfolding headerCheck headerSize
+unfolding asks headerCheck headerSize
 returns-3 c =
     let if1 = c .before .before .before .before .before .if1 in
     let hop-field-count = c .before .before .before .before .hop-field-count in
@@ -28,7 +29,7 @@ returns-3 c =
     simp (le-leb _ _ (if1 .left), le-leb _ _ (rw e at (c .before .if2 .left)), lt-leb _ _ (rw (hop-field-count .ensures) at (c .if3 .taken)))
 
 returns-4 : tie.Need-returns-4
-unfolding headerCheck headerSize
+unfolding asks headerCheck headerSize
 returns-4 c =
     let if1 = c .before .before .before .before .before .if1 in
     let hop-field-count = c .before .before .before .before .hop-field-count in
