@@ -85,7 +85,7 @@ module _ (edition : Edition) {path : List ℕ} (g : Given path) where
   -- of the stations left: if well ended, then along
   abbrev pub WellAlong : List Station → List ℕ → ℕ → Type 0
   WellAlong stations readings k =
-      (t m : ℕ) (mid : List ℕ) → Stands path mid t m (arrivingSegId edition path t m) → Hop edition path t m
+      (t m : ℕ) (mid : List ℕ) → Stands edition path mid t m (arrivingSegId edition path t m) → Hop edition path t m
       → AllReached (startOf path t + m) stations
       → endedWell (k + length stations) (journey edition k stations readings mid) ≡ true → Along edition path t m stations readings
 
@@ -157,7 +157,7 @@ module _ (edition : Edition) {path : List ℕ} (g : Given path) where
   some-station (across plain a b good link next way two rest) = refl
 
   pub along-well : (stations : List Station) (readings : List ℕ) (k t m : ℕ) (mid : List ℕ)
-      → Stands path mid t m (arrivingSegId edition path t m) → Hop edition path t m → AllReached (startOf path t + m) stations
+      → Stands edition path mid t m (arrivingSegId edition path t m) → Hop edition path t m → AllReached (startOf path t + m) stations
       → Along edition path t m stations readings
       → endedWell (k + length stations) (journey edition k stations readings mid) ≡ true
   along-well (station ∷ []) (reading ∷ readings) k t m mid s h all (arrive a b good) =

@@ -28,7 +28,7 @@ use Rattle.journey.specs.Check.{startOf, countOf, hopOf, leavesBy}
 use Rattle.journey.specs.Journey.{stepAt, goesOn, delivers}
 use Rattle.journey.proofs.Yes.{yes, yes-append, through, passed-through}
 use Rattle.journey.proofs.Stands.{Stands, arrivingSegId, leaves, leaves-over}
-use Rattle.journey.proofs.Hops.{Hop, Onward, inner, over, nextSegment, nextPlace, inner-stays, over-crosses, over-before, inside-first, start-next, next-in-header, before-end}
+use Rattle.journey.proofs.Hops.{Hop, Onward, inner, over, nextSegment, nextPlace, inner-stays, over-crosses, over-peer, over-before, inside-first, start-next, next-in-header, before-end}
 use Rattle.journey.proofs.Steps.{Given, Reached, hopTests, linkTests, leavingTests, wayOf, changeTests, enteredAt, crossedAt, forwarded, insideThen, leavingThen, middle-step, last-step, joint-step, inside, quiet-here, stands-after, quiet-next, behind, stands-crossed}
 
 up-is-listed : (listed : Listed) → (isListed listed && (isUpListed listed && true)) ≡ isUpListed listed
@@ -69,7 +69,7 @@ module _ (edition : Edition) (path : List ℕ) where
 
 -- ---- the answer, and where the path stands after it
 
-module _ {edition : Edition} {path mid : List ℕ} {t m : ℕ} (g : Given path) (s : Stands path mid t m (arrivingSegId edition path t m))
+module _ {edition : Edition} {path mid : List ℕ} {t m : ℕ} (g : Given path) (s : Stands edition path mid t m (arrivingSegId edition path t m))
     (h : Hop edition path t m)
     {station : Station} (r : Reached station (startOf path t + m)) (reading : ℕ) where
   -- where the next hop lies in the segment, or over the peering link
@@ -105,18 +105,18 @@ module _ {edition : Edition} {path mid : List ℕ} {t m : ℕ} (g : Given path) 
         ∙ rw (and-false (wayGood path station t m), and-false (hopGood edition path station reading t m))
 
     onward-stands : (o : Onward edition path t m)
-        → Stands path (egressMove edition entered) (nextSegment o) (nextPlace o) (arrivingSegId edition path (nextSegment o) (nextPlace o))
+        → Stands edition path (egressMove edition entered) (nextSegment o) (nextPlace o) (arrivingSegId edition path (nextSegment o) (nextPlace o))
     onward-stands (inner e) =
-        leaves edition (g .room) (inside g s h r reading) (stands-after g s h r reading) (quiet-here g s h r reading)
+        leaves (g .room) (inside g s h r reading) (stands-after g s h r reading) (quiet-here g s h r reading)
         (inner-stays edition path t m (h .third) e) (omega (arith, before-end path t (h .third), g .few))
     onward-stands (over p z e) =
         let n = next-in-header path t (h .third) (h .long) (over-before edition path t p z) in
         let at = start-next path t (n .0) in
-        leaves-over edition (g .room) (inside g s h r reading) (stands-after g s h r reading) (quiet-here g s h r reading)
-        (over-crosses edition path t m p z e) (omega (arith, over-before edition path t p z, g .few)) (omega arith) (n .1)
+        leaves-over (g .room) (inside g s h r reading) (stands-after g s h r reading) (quiet-here g s h r reading)
+        (over-crosses edition path t m p z e) (over-peer edition path t m p z e) e (omega (arith, over-before edition path t p z, g .few)) (omega arith) (n .1)
 
     pub middle-left : hopGood edition path station reading t m ≡ true → wayGood path station t m ≡ true
-        → Stands path (stepAt edition station reading mid .bytes) (nextSegment more) (nextPlace more)
+        → Stands edition path (stepAt edition station reading mid .bytes) (nextSegment more) (nextPlace more)
         (arrivingSegId edition path (nextSegment more) (nextPlace more))
     middle-left good way =
         let e : stepAt edition station reading mid ≡ onward =
@@ -125,7 +125,7 @@ module _ {edition : Edition} {path mid : List ℕ} {t m : ℕ} (g : Given path) 
         rw e (onward-stands more)
 
     pub middle-next : goesOn (stepAt edition station reading mid .answer) ≡ true
-        → Stands path (stepAt edition station reading mid .bytes) (nextSegment more) (nextPlace more)
+        → Stands edition path (stepAt edition station reading mid .bytes) (nextSegment more) (nextPlace more)
         (arrivingSegId edition path (nextSegment more) (nextPlace more))
     middle-next on =
         let good = sym middle-on ∙ on in
@@ -165,7 +165,7 @@ module _ {edition : Edition} {path mid : List ℕ} {t m : ℕ} (g : Given path) 
 
     inside-yes : yes (insideQuestions edition crossed) ≡ leb 2 (countOf path (t + 1))
     inside-yes =
-        inside-first edition (stands-crossed g s h r reading plain e f) plain (behind g s h r reading plain e f .0)
+        inside-first (stands-crossed g s h r reading plain e f) plain (behind g s h r reading plain e f .0)
         (omega (arith, start-next path t (behind g s h r reading plain e f .0)))
 
     joint-through : (holds : StepAnswer → Bool) (none : (why : StandardRoutingError) → holds (Refused why) ≡ false)
@@ -200,7 +200,7 @@ module _ {edition : Edition} {path mid : List ℕ} {t m : ℕ} (g : Given path) 
         )
 
     pub joint-left : changeGood edition path station reading t m ≡ true → wayGood path station (t + 1) 0 ≡ true → 2 ≤ countOf path (t + 1)
-        → Stands path (stepAt edition station reading mid .bytes) (t + 1) 1 (arrivingSegId edition path (t + 1) 1)
+        → Stands edition path (stepAt edition station reading mid .bytes) (t + 1) 1 (arrivingSegId edition path (t + 1) 1)
     joint-left good way two =
         let u : stepAt edition station reading mid ≡ acrossOn =
         joint-step g s h r reading plain e f
@@ -210,12 +210,12 @@ module _ {edition : Edition} {path mid : List ℕ} {t m : ℕ} (g : Given path) 
         ∙ passed-through (insideQuestions edition crossed) crossed acrossOn (inside-yes ∙ le-leb _ _ two) in
         let b = behind g s h r reading plain e f in
         rw u
-        (leaves edition (g .room) (b .1) (stands-crossed g s h r reading plain e f) (quiet-next g s h r reading plain e f)
+        (leaves (g .room) (b .1) (stands-crossed g s h r reading plain e f) (quiet-next g s h r reading plain e f)
         (inner-stays edition path (t + 1) 0 (omega (arith, b .0)) two)
         (omega (arith, start-next path t (b .0), before-end path (t + 1) (omega (arith, b .0)), g .few)))
 
     pub joint-next : goesOn (stepAt edition station reading mid .answer) ≡ true
-        → Stands path (stepAt edition station reading mid .bytes) (t + 1) 1 (arrivingSegId edition path (t + 1) 1)
+        → Stands edition path (stepAt edition station reading mid .bytes) (t + 1) 1 (arrivingSegId edition path (t + 1) 1)
     joint-next on =
         let good = sym joint-on ∙ on in
         let rest = second-of (changeGood edition path station reading t m) _ good in

@@ -35,7 +35,7 @@ use Rattle.journey.proofs.LetThrough.{Asked, asked, first-no-none}
 module _ {edition : Edition} {path : List ℕ} {stations : List Station} {earliest latest : ℕ}
     (a : Asked edition path stations earliest latest) where
   -- the path stands at its first hop
-  pub starts : Stands path path 0 0 (arrivingSegId edition path 0 0)
+  pub starts : Stands edition path path 0 0 (arrivingSegId edition path 0 0)
   unfolding chainedSegId macsFrom macChainingBeta
   starts = record {
     kept = kept-self path;
@@ -45,6 +45,7 @@ module _ {edition : Edition} {path : List ℕ} {stations : List Station} {earlie
     info-same = λ i. same-info refl;
     seg = go (consDir (infoField path 0));
     later = λ i l. refl;
+    earlier = λ (i : ℕ) (l : i < 0). absurd (omega arith);
   }
     where
       go : (c : Bool) → segId (infoField path 0) ≡ cond c (segId (infoField path 0)) (segId (infoField path 0))

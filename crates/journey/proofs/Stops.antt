@@ -81,7 +81,7 @@ or-through edition holds qs left more e h = go (firstNo qs) refl
 
 -- ---- one station
 
-module _ {edition : Edition} {path mid : List ℕ} {t m : ℕ} (g : Given path) (s : Stands path mid t m (arrivingSegId edition path t m))
+module _ {edition : Edition} {path mid : List ℕ} {t m : ℕ} (g : Given path) (s : Stands edition path mid t m (arrivingSegId edition path t m))
     (h : Hop edition path t m)
     {station : Station} (r : Reached station (startOf path t + m)) (reading : ℕ) where
   middle-or : Onward edition path t m → Or edition goesOn (stepAt edition station reading mid .answer)
@@ -142,7 +142,7 @@ Ends edition count ended = (endedWell count ended ≡ true) ⊎ (stopped edition
 module _ (edition : Edition) {path : List ℕ} (g : Given path) where
   abbrev EndsFrom : List Station → List ℕ → ℕ → Type 0
   EndsFrom stations readings k =
-      (t m : ℕ) (mid : List ℕ) → Stands path mid t m (arrivingSegId edition path t m) → Hop edition path t m
+      (t m : ℕ) (mid : List ℕ) → Stands edition path mid t m (arrivingSegId edition path t m) → Hop edition path t m
       → AllReached (startOf path t + m) stations
       → Enough edition path t m stations readings → Ends edition (k + length stations) (journey edition k stations readings mid)
 
