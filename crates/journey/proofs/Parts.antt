@@ -21,7 +21,7 @@ use Rattle.journey.specs.Check.{all, lengthsPass, macFits, arrivesBy, le
 use Rattle.journey.proofs.Yes.{yes}
 use Rattle.journey.proofs.All.{all-at, all-of}
 use Rattle.journey.proofs.Hops.{Onward, inner, over, start-next}
-use Rattle.journey.proofs.AtStation.{linkGood}
+use Rattle.journey.proofs.Laws.{linkGood}
 use Rattle.journey.proofs.Lengths.{Shape, linked-infos, spare, at-most-three, all-long, all-double, station-among, start-enough, fit-shape, shape-fit}
 use Rattle.journey.proofs.Facts.{HopFacts, AllFacts, shared-plain, shared-linked}
 

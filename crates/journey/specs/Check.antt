@@ -122,7 +122,7 @@ segmentPasses edition stations earliest latest path s =
     segmentFits (stationOf edition stations path s) earliest latest (peeringHopOf edition path s) (infoField path s) (hopOf path s)
     (countOf path s)
 
--- from segment s to the next: no clock is read there
+-- from segment s, which has a hop, to the next: no clock is read there
 unfoldable pub jointPasses : Edition → List Station → List ℕ → ℕ → Bool
 jointPasses edition stations path s =
     cond (peeringPath edition path)
