@@ -22,7 +22,7 @@ use Rattle.journey.proofs.All.{all-same}
 use Rattle.journey.specs.Journey.{stepAt, goesOn, someLeft, orEnds, journey}
 
 pub journey-agrees : (k : ℕ) (stations : List Station) (readings path : List ℕ) → Plain path
-    → journey Second k stations readings path ≡ journey First k stations readings path
+    → journey (stepAt Second) k stations readings path ≡ journey (stepAt First) k stations readings path
 unfolding journey stepAt
 journey-agrees k [] readings path plain = refl
 journey-agrees k (station ∷ stations) [] path plain = refl

@@ -5,16 +5,18 @@ use mathlib.Core.Bool.{Bool, true, false, cond, false≢true}
 use mathlib.Core.List.{List, [], _∷_}
 use Prim.Native.Nat.{ℕ, zero, suc, _+_, _≤_, _<_}
 use native.Mathlib.Omega.{arith}
+use borrow.Author.Tests.{le-leb}
 use lib.ListN.{length, getD}
+use Rattle.octets.proofs.Bools.{both, each-of}
 use Rattle.standard_path.specs.Header.{infos, hops}
 use Rattle.edition.specs.declared.Edition.{Edition}
 use Rattle.edition.specs.Edition.{peeringPath}
 use Rattle.itinerary.specs.Itinerary.{Station}
 use Rattle.journey.specs.Check.{startOf, countOf, shared, noStation}
-use Rattle.journey.proofs.Hops.{Hop, Onward, inner, over, nextSegment, nextPlace, over-before, Kind, middle, last, joint, kind, in-header, start-next, next-in-header, hop-ahead, hop-across}
+use Rattle.journey.proofs.Hops.{Hop, Onward, inner, over, over-before, Kind, middle, last, joint, kind, isLast, in-header, start-next, next-in-header}
 use Rattle.journey.proofs.Lengths.{Shape, one, two, three, linked, linked-infos, at-most-three, all-double, station-among, last-segment, spare, Enough}
-use Rattle.journey.proofs.AtStation.{hopGood, linkGood, wayGood}
-use Rattle.journey.proofs.Along.{Along, arrive, ahead, across}
+use Rattle.journey.proofs.Laws.{hopGood, linkGood, wayGood, good, segmentBehind, placeBehind, crossing}
+use Rattle.journey.proofs.Along.{Along, arrive, onward, at-end, hop-behind}
 
 -- ---- two hops at one station: the same, or the two of a joint
 
@@ -72,6 +74,13 @@ facts-at : {edition : Edition} {path : List ℕ} {station : Station} {reading t 
 facts-at {edition} {path} {station} {reading} {t} {m} {t′} {m′} e f facts =
     subst (λ (n : ℕ). HopFacts edition path station reading t′ n) f (subst (λ (u : ℕ). HopFacts edition path station reading u m) e facts)
 
+-- the last station finds its hop good
+end-good : {edition : Edition} {path : List ℕ} {t m : ℕ} (station : Station) (reading : ℕ) (k : Kind edition path t m) → isLast k ≡ true
+    → good k station reading ≡ true → hopGood edition path station reading t m ≡ true
+end-good station reading (middle more) l e = absurd (false≢true l)
+end-good station reading (last a b) l e = e
+end-good station reading (joint plain a b) l e = absurd (false≢true l)
+
 -- ---- the next hop's station is the next
 
 pub shared-plain : (edition : Edition) (path : List ℕ) → peeringPath edition path ≡ false → (t : ℕ) → shared edition path t ≡ t
@@ -80,11 +89,16 @@ shared-plain edition path p t = rw p
 pub shared-linked : (edition : Edition) (path : List ℕ) → peeringPath edition path ≡ true → (t : ℕ) → shared edition path t ≡ 0
 shared-linked edition path p t = rw p
 
-pub next-index : {edition : Edition} {path : List ℕ} {t m : ℕ} (o : Onward edition path t m)
-    → startOf path (nextSegment o) + nextPlace o + shared edition path t ≡ startOf path t + m + 1 + shared edition path (nextSegment o)
-next-index (inner e) = omega arith
-next-index {edition} {path} {t} (over p z e) =
+pub index-behind : {edition : Edition} {path : List ℕ} {t m : ℕ} → Hop edition path t m → (k : Kind edition path t m)
+    → startOf path (segmentBehind k) + placeBehind k + shared edition path t
+    ≡ startOf path t + m + 1 + shared edition path (segmentBehind k)
+index-behind h (middle (inner e)) = omega arith
+index-behind {edition} {path} {t} h (middle (over p z e)) =
     omega (arith, start-next path t (omega arith), shared-linked edition path p t, shared-linked edition path p (t + 1))
+index-behind h (last a b) = omega arith
+index-behind {edition} {path} {t} h (joint plain a b) =
+    let n = next-in-header path t (h .third) (h .long) (omega arith) in
+    omega (arith, start-next path t (n .0), shared-plain edition path plain t, shared-plain edition path plain (t + 1))
 
 -- a segment's last hop goes on over the peering link only
 not-plain : {edition : Edition} {path : List ℕ} {t m : ℕ} → Onward edition path t m → peeringPath edition path ≡ false → m + 1 ≡ countOf path t → ⊥
@@ -110,40 +124,46 @@ module _ {edition : Edition} {path : List ℕ} (shape : Shape edition path) wher
           together p (all-double shape p) t m t′ m′ (h .third) (at-most-three path t′ i′) (in-header path t (h .third) (h .long)) i′
           (h .within) w′ (h .back (rw p)) (omega arith)
 
+  -- what a station before the last finds
+  facts-here : {t m t′ m′ : ℕ} (station : Station) (reading : ℕ) (k : Kind edition path t m) → isLast k ≡ false
+      → good k station reading ≡ true → Together edition path t m t′ m′ → HopFacts edition path station reading t′ m′
+  facts-here {t} {m} station reading (middle more) n e (same p q) =
+      let tests = each-of (hopGood edition path station reading t m) _ e in
+      facts-at p q (record { good = tests .0; way = λ o. tests .1; link = λ c j i. absurd (not-plain more c j) })
+  facts-here station reading (middle more) n e (joined c p q j) = absurd (not-plain more c j)
+  facts-here station reading (last a b) n e both-here = absurd (false≢true (sym n))
+  facts-here {t} {m} station reading (joint plain a b) n e (same p q) =
+      let tests = crossing edition path station reading t m e in
+      facts-at p q (record { good = tests .here; way = λ o. absurd (not-plain o plain a); link = λ c j i. tests .link })
+  facts-here {t} {m} station reading (joint plain a b) n e (joined c p q j) =
+      let tests = crossing edition path station reading t m e in
+      facts-at p q (record { good = tests .there; way = λ o. tests .way; link = λ c j i. absurd (omega arith) })
+
   pub along-facts : (t m : ℕ) (stations : List Station) (readings : List ℕ) → Along edition path t m stations readings → Hop edition path t m
       → AllFacts edition path t m stations readings
-  along-facts t m (station ∷ []) (reading ∷ readings) (arrive a b good) h zero t′ m′ l i′ w′ e =
-      go (both-at t m t′ m′ h i′ w′ e)
+  along-facts t m (station ∷ []) (reading ∷ readings) (arrive k l e) h zero t′ m′ some i′ w′ q =
+      go (both-at t m t′ m′ h i′ w′ q)
     where
+      end : (m + 1 ≡ countOf path t) × (startOf path t + m + 1 ≡ hops path)
+      end = at-end k l
+
       ending : t + 1 ≡ infos path
-      ending = last-segment shape t (in-header path t (h .third) (h .long)) (omega arith)
+      ending = last-segment shape t (in-header path t (h .third) (h .long)) (omega (arith, end .0, end .1))
 
       go : Together edition path t m t′ m′ → HopFacts edition path station reading t′ m′
-      go (same p q) =
-          facts-at p q (record { good = good; way = λ o. absurd (not-last o a b); link = λ c j k. absurd (omega (arith, ending)) })
-      go (joined c p q j) = absurd (omega (arith, ending))
-  along-facts t m (station ∷ []) (reading ∷ readings) (arrive a b good) h (suc i) t′ m′ l i′ w′ e = absurd (omega arith)
-  along-facts t m (station ∷ stations) (reading ∷ readings) (ahead more good way rest) h zero t′ m′ l i′ w′ e =
-      go (both-at t m t′ m′ h i′ w′ e)
-    where
-      go : Together edition path t m t′ m′ → HopFacts edition path station reading t′ m′
-      go (same p q) = facts-at p q (record { good = good; way = λ o. way; link = λ c j k. absurd (not-plain more c j) })
-      go (joined c p q j) = absurd (not-plain more c j)
-  along-facts t m (station ∷ stations) (reading ∷ readings) (ahead more good way rest) h (suc i) t′ m′ l i′ w′ e =
-      along-facts (nextSegment more) (nextPlace more) stations readings rest (hop-ahead h more) i t′ m′ (omega arith) i′ w′
-      (omega (arith, next-index more))
-  along-facts t m (station ∷ stations) (reading ∷ readings) (across plain a b good link next way two′ rest) h zero t′ m′ l i′ w′ e =
-      go (both-at t m t′ m′ h i′ w′ e)
-    where
-      go : Together edition path t m t′ m′ → HopFacts edition path station reading t′ m′
-      go (same p q) = facts-at p q (record { good = good; way = λ o. absurd (not-plain o plain a); link = λ c j k. link })
-      go (joined c p q j) = facts-at p q (record { good = next; way = λ o. way; link = λ c j k. absurd (omega arith) })
-  along-facts t m (station ∷ stations) (reading ∷ readings) (across plain a b good link next way two′ rest) h (suc i) t′ m′ l i′ w′ e =
-      let n = next-in-header path t (h .third) (h .long) (omega arith) in
-      let at = start-next path t (n .0) in
-      let here = shared-plain edition path plain t in
-      let there = shared-plain edition path plain (t + 1) in
-      along-facts (t + 1) 1 stations readings rest (hop-across h a b two′) i t′ m′ (omega arith) i′ w′ (omega arith)
+      go (same p r) =
+          facts-at p r (record {
+            good = end-good station reading k l e;
+            way = λ o. absurd (not-last o (end .0) (end .1));
+            link = λ c j i. absurd (omega (arith, ending));
+          })
+      go (joined c p r j) = absurd (omega (arith, ending))
+  along-facts t m (station ∷ []) (reading ∷ readings) (arrive k l e) h (suc i) t′ m′ some i′ w′ q = absurd (omega arith)
+  along-facts t m (station ∷ stations) (reading ∷ readings) (onward k n e rest) h zero t′ m′ some i′ w′ q =
+      facts-here station reading k n e (both-at t m t′ m′ h i′ w′ q)
+  along-facts t m (station ∷ stations) (reading ∷ readings) (onward k n e rest) h (suc i) t′ m′ some i′ w′ q =
+      along-facts (segmentBehind k) (placeBehind k) stations readings rest (hop-behind h k n station reading e) i t′ m′ (omega arith) i′ w′
+      (omega (arith, index-behind h k))
 
   -- ---- the other way
 
@@ -169,16 +189,20 @@ module _ {edition : Edition} {path : List ℕ} (shape : Shape edition path) wher
       ended : (stations : List Station)
           → length (station ∷ stations) + (startOf path t + m) + spare edition path ≡ hops path + 1 + shared edition path t
           → m + 1 ≡ countOf path t → startOf path t + m + 1 ≡ hops path → Along edition path t m (station ∷ stations) (reading ∷ readings)
-      ended [] l a b = arrive a b (here .good)
+      ended [] l a b = arrive (last a b) refl (here .good)
       ended (next ∷ stations) l a b =
           absurd (omega (arith, done (peeringPath edition path) (last-segment shape t inside (omega arith))))
 
+      further : (k : Kind edition path t m) → isLast k ≡ false → good k station reading ≡ true
+          → Along edition path t m (station ∷ stations) (reading ∷ readings)
+      further k n e =
+          let index = index-behind h k in
+          onward k n e
+          (ih (segmentBehind k) (placeBehind k) (hop-behind h k n station reading e) (omega (arith, left .0, index), omega (arith, left .1))
+          (λ i t′ m′ l i′ w′ q. facts (suc i) t′ m′ (omega arith) i′ w′ (omega (arith, index))))
+
       go : Kind edition path t m → Along edition path t m (station ∷ stations) (reading ∷ readings)
-      go (middle more) =
-          let index = next-index more in
-          ahead more (here .good) (here .way more)
-          (ih (nextSegment more) (nextPlace more) (hop-ahead h more) (omega (arith, left .0, index), omega (arith, left .1))
-          (λ i t′ m′ l i′ w′ e. facts (suc i) t′ m′ (omega arith) i′ w′ (omega (arith, index))))
+      go (middle more) = further (middle more) refl (both (here .good) (here .way more))
       go (last a b) = ended stations (left .0) a b
       go (joint plain a b) =
           let n = next-in-header path t (h .third) (h .long) (omega arith) in
@@ -187,9 +211,8 @@ module _ {edition : Edition} {path : List ℕ} (shape : Shape edition path) wher
           let these = shared-plain edition path plain t in
           let those = shared-plain edition path plain (t + 1) in
           let then = facts 0 (t + 1) 0 (omega arith) (n .1) (omega arith) (omega arith) in
-          across plain a b (here .good) (here .link plain a (n .1)) (then .good) (then .way (inner (omega arith))) long
-          (ih (t + 1) 1 (hop-across h a b long) (omega (arith, left .0), omega (arith, left .1))
-          (λ i t′ m′ l i′ w′ e. facts (suc i) t′ m′ (omega arith) i′ w′ (omega arith)))
+          further (joint plain a b) refl
+          (both (both (here .good) (both (here .link plain a (n .1)) (then .good))) (both (then .way (inner (omega arith))) (le-leb _ _ long)))
 
   pub facts-along : (stations : List Station) (readings : List ℕ) → Onwards stations readings
   facts-along [] readings t m h left facts =
@@ -203,7 +226,7 @@ module _ {edition : Edition} {path : List ℕ} (shape : Shape edition path) wher
 pub along-shape : {edition : Edition} {path : List ℕ} (t m : ℕ) (stations : List Station) (readings : List ℕ)
     → Along edition path t m stations readings → Hop edition path t m → Shape edition path
 unfolding hops
-along-shape {edition} {path} t m (station ∷ []) (reading ∷ readings) (arrive a b good) h = peer (peeringPath edition path) refl
+along-shape {edition} {path} t m (station ∷ []) (reading ∷ readings) (arrive k l e) h = peer (peeringPath edition path) refl
   where
     go : peeringPath edition path ≡ false → (t : ℕ) → t < 3 → ((u : ℕ) → u ≤ t → 2 ≤ countOf path u)
         → startOf path t + countOf path t ≡ hops path
@@ -215,8 +238,6 @@ along-shape {edition} {path} t m (station ∷ []) (reading ∷ readings) (arrive
 
     peer : (b : Bool) → peeringPath edition path ≡ b → Shape edition path
     peer true p = linked p
-    peer false p = go p t (h .third) (h .double p) (omega arith)
-along-shape t m (station ∷ stations) (reading ∷ readings) (ahead more good way rest) h =
-    along-shape (nextSegment more) (nextPlace more) stations readings rest (hop-ahead h more)
-along-shape {path = path} t m (station ∷ stations) (reading ∷ readings) (across plain a b good link next way two′ rest) h =
-    along-shape (t + 1) 1 stations readings rest (hop-across h a b two′)
+    peer false p = go p t (h .third) (h .double p) (omega (arith, at-end k l .0, at-end k l .1))
+along-shape t m (station ∷ stations) (reading ∷ readings) (onward k n e rest) h =
+    along-shape (segmentBehind k) (placeBehind k) stations readings rest (hop-behind h k n station reading e)

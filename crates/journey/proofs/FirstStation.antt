@@ -1,9 +1,9 @@
 -- The first station: a path at its first hop and info field passes 5, 6 and 7 only with a first segment of two hops or more, on a peering
 -- path of one.
 -- Assumes nothing.
-use mathlib.Core.Path.{_≡_, refl, ap, sym, _∙_}
+use mathlib.Core.Path.{_≡_, refl, _∙_}
 use mathlib.Core.Bool.{Bool, true, false, not, _||_, cond, and-false}
-use mathlib.Core.List.{List, [], _∷_, _++_}
+use mathlib.Core.List.{List, [], _∷_}
 use Prim.Native.Nat.{ℕ, zero, suc, _+_, _≤_, _<_}
 use native.Mathlib.Omega.{arith}
 use borrow.Author.Tests.{eqb-true, eqb-false, not-true, ltb-true, lt-ltb}
@@ -16,32 +16,12 @@ use Rattle.answers.specs.declared.Validation.the-variants.{Valid}
 use Rattle.answers.specs.declared.StandardRoutingError.the-variants.{AdvanceFailed}
 use Rattle.answers.specs.declared.AdvanceError.the-variants.{HopOutOfBounds, SingleHopSegment, InvalidSegmentIndex, InfoOutOfBounds}
 use Rattle.answers.proofs.Asked.{both-yes, none-asked}
-use Rattle.answers.specs.declared.StandardRoutingError.{StandardRoutingError}
-use Rattle.answers.specs.declared.StepAnswer.{StepAnswer}
-use Rattle.answers.specs.declared.StepAnswer.the-variants.{Refused as Stopped}
-use Rattle.answers.specs.Outcome.{Outcome}
 use Rattle.edition.specs.declared.Edition.{Edition}
 use Rattle.edition.specs.Edition.{peeringPath, peeringQuestions}
-use Rattle.place.specs.Place.{before, ingressPlace, segment, ends, isPeeringHop, alone, changes}
-use Rattle.validator.specs.Check.{keyMac}
-use Rattle.routing_laws.proofs.Whole.{step-asks}
-use Rattle.itinerary.specs.Itinerary.{Station}
+use Rattle.place.specs.Place.{segment, ends, isPeeringHop, alone, changes}
 use Rattle.journey.specs.Check.{countOf}
-use Rattle.journey.specs.Journey.{stepAt}
-use Rattle.journey.proofs.Yes.{yes, yes-append, yes-valid, second-through}
+use Rattle.journey.proofs.Yes.{yes}
 use Rattle.journey.proofs.Hops.{Hop}
-
--- an answer that is no refusal has found the place in order
-pub placed-yes : (edition : Edition) (holds : StepAnswer → Bool) (none : (why : StandardRoutingError) → holds (Stopped why) ≡ false)
-    (station : Station) (reading : ℕ) (path : List ℕ) → holds (stepAt edition station reading path .answer) ≡ true
-    → yes (ingressPlace edition path) ≡ true
-unfolding stepAt
-placed-yes edition holds none station reading path e =
-    second-through holds none (before (station .ids) (station .states) path) (ingressPlace edition path) path path _
-    (sym
-    (ap (λ (o : Outcome StepAnswer). holds (o .answer))
-    (step-asks edition (station .ids) (station .states) (keyMac (station .key)) (station .arrival) reading false path))
-    ∙ e)
 
 -- 5, 6 and 7; then 8, and 28
 abbrev pub firstThree : Edition → List ℕ → Questions
@@ -119,12 +99,3 @@ module _ (edition : Edition) (path : List ℕ) (hf : currHf path ≡ 0) (inf : c
       long : (n : ℕ) → n ≤ seg0Len path → (u : ℕ) → u ≤ 0 → n ≤ countOf path u
       long n l zero k = l
       long n l (suc u) k = absurd (omega arith)
-
-  -- a path in order there
-  pub first-placed : yes (ingressPlace edition path) ≡ true → Hop edition path 0 0
-  first-placed e =
-      let split = sym (yes-append (firstThree edition path) (eights edition path ++ peeringQuestions edition path)) ∙ e in
-      first-hop (begun (first-of (yes (firstThree edition path)) _ split))
-      (yes-valid (peeringQuestions edition path)
-      (second-of (yes (eights edition path)) _
-      (sym (yes-append (eights edition path) (peeringQuestions edition path)) ∙ second-of (yes (firstThree edition path)) _ split)))

@@ -82,7 +82,7 @@ module _ (path : List ℕ) where
 
 -- ---- the place, in the words of the questions
 
-module _ {path mid : List ℕ} {t m value : ℕ} (s : Stands path mid t m value) (t3 : t < 3) (within : m < countOf path t) where
+module _ {edition : Edition} {path mid : List ℕ} {t m value : ℕ} (s : Stands edition path mid t m value) (t3 : t < 3) (within : m < countOf path t) where
   at-segment : segment mid ≡ t
   at-segment = rw (s .kept .seg0, s .kept .seg1, s .hf) (segment-of path t m t3 within)
 
@@ -204,7 +204,7 @@ unfolding hops
 over-before edition path zero p z = let l = peering-lengths edition path p in omega (arith, l .seg1)
 over-before edition path (suc t) p z = absurd (omega arith)
 
-module _ {edition : Edition} {path mid : List ℕ} {t m value : ℕ} (s : Stands path mid t m value) (h : Hop edition path t m) where
+module _ {edition : Edition} {path mid : List ℕ} {t m value : ℕ} (s : Stands edition path mid t m value) (h : Hop edition path t m) where
   pub placed : (k : Kind edition path t m) → Placed edition mid (isJoint k) (isLast k)
   placed k = record { valid = valid; changing = changing k; ending = ending k }
     where
@@ -220,11 +220,11 @@ module _ {edition : Edition} {path mid : List ℕ} {t m value : ℕ} (s : Stands
       changing (middle (inner e)) =
           rw (at-ends s (h .third) (h .within) false (ne-eqb _ _ (λ (q : m + 1 ≡ countOf path t). omega arith)))
           (and-false (not (isPeeringHop edition mid)))
-      changing (middle (over p z e)) = rw (peer-here s edition, over-peer edition path t m p z e)
+      changing (middle (over p z e)) = rw (peer-here s, over-peer edition path t m p z e)
       changing (last e f) =
           rw (at-ends s (h .third) (h .within) true (eq-eqb _ _ e), ending (last e f)) (and-false (not (isPeeringHop edition mid)))
       changing (joint p e f) =
-          rw (peering-path-here s edition, p, at-ends s (h .third) (h .within) true (eq-eqb _ _ e), ending (joint p e f))
+          rw (peering-path-here s, p, at-ends s (h .third) (h .within) true (eq-eqb _ _ e), ending (joint p e f))
 
       among : currHf mid < hops mid
       among = rw (s .hf, hops-kept (s .kept)) (omega (arith, before-end path t (h .third), h .within))
@@ -249,14 +249,14 @@ module _ {edition : Edition} {path mid : List ℕ} {t m value : ℕ} (s : Stands
       valid : firstNo (ingressPlace edition mid) ≡ Valid
       valid =
           both-yes _ _ _ (lt-ltb _ _ among)
-          (both-yes _ _ _ (rw (peering-path-here s edition, at-starts s (h .third) (h .within))
+          (both-yes _ _ _ (rw (peering-path-here s, at-starts s (h .third) (h .within))
           (alone (peeringPath edition path) refl (eqb m 0) refl))
           (both-yes _ _ _ (eq-eqb _ _ (at-segment s (h .third) (h .within) ∙ sym (s .inf)))
-          (both-yes _ _ _ (lt-ltb _ _ inside) (both-yes _ _ _ (next k) (ap firstNo (fits-here s edition) ∙ h .fits)))))
+          (both-yes _ _ _ (lt-ltb _ _ inside) (both-yes _ _ _ (next k) (ap firstNo (fits-here s) ∙ h .fits)))))
 
 -- ---- what is left to ask at egress
 
-module _ (edition : Edition) {path mid : List ℕ} {t m value : ℕ} (s : Stands path mid t m value) (t3 : t < 3) where
+module _ {edition : Edition} {path mid : List ℕ} {t m value : ℕ} (s : Stands edition path mid t m value) (t3 : t < 3) where
   -- on the way on nothing
   pub inside-onward : m < countOf path t → Onward edition path t m → firstNo (insideQuestions edition mid) ≡ Valid
   inside-onward within o =
@@ -270,7 +270,7 @@ module _ (edition : Edition) {path mid : List ℕ} {t m value : ℕ} (s : Stands
       going : Onward edition path t m → (crosses edition mid || not (ends mid)) ≡ true
       going (inner e) =
           rw (at-ends s t3 within false (ne-eqb _ _ (λ (q : m + 1 ≡ countOf path t). omega arith))) (or-true (crosses edition mid))
-      going (over p z e) = rw (crosses-here s edition, over-crosses edition path t m p z e)
+      going (over p z e) = rw (crosses-here s, over-crosses edition path t m p z e)
 
 -- the next hop, and the second hop behind a joint
 pub hop-ahead : {edition : Edition} {path : List ℕ} {t m : ℕ} → Hop edition path t m → (o : Onward edition path t m)
@@ -319,7 +319,7 @@ hop-across {edition} {path} {t} {m} h e f two =
     }
 
 -- at the first hop of a segment behind a joint, whether it has a second
-module _ (edition : Edition) {path mid : List ℕ} {t value : ℕ} (s : Stands path mid (t + 1) 0 value) (plain : peeringPath edition path ≡ false)
+module _ {edition : Edition} {path mid : List ℕ} {t value : ℕ} (s : Stands edition path mid (t + 1) 0 value) (plain : peeringPath edition path ≡ false)
     (t2 : t < 2) (there : startOf path (t + 1) < hops path) where
   -- an empty segment is passed over
   empty-next : countOf path (t + 1) ≡ 0 → eqb (segment mid) (currInf mid) ≡ false
@@ -335,7 +335,7 @@ module _ (edition : Edition) {path mid : List ℕ} {t value : ℕ} (s : Stands p
       go (suc (suc t)) h none there = absurd (omega arith)
 
   no-crossing : crosses edition mid ≡ false
-  no-crossing = rw (peering-path-here s edition, plain)
+  no-crossing = rw (peering-path-here s, plain)
 
   pub inside-first : yes (insideQuestions edition mid) ≡ leb 2 (countOf path (t + 1))
   unfolding yes
@@ -353,5 +353,5 @@ module _ (edition : Edition) {path mid : List ℕ} {t value : ℕ} (s : Stands p
           → (eqb (segment mid) (currInf mid) && (not (isFinal mid) && ((crosses edition mid || not (ends mid)) && true))) ≡ two
       go true e =
           let two = leb-true 2 (countOf path (t + 1)) e in
-          sym (valid-yes (insideQuestions edition mid)) ∙ ap isValid (inside-onward edition s (omega arith) (omega arith) (inner (omega arith)))
+          sym (valid-yes (insideQuestions edition mid)) ∙ ap isValid (inside-onward s (omega arith) (omega arith) (inner (omega arith)))
       go false e = some (eqb (countOf path (t + 1)) 0) refl (leb-false 2 (countOf path (t + 1)) e)

@@ -13,9 +13,7 @@ use Rattle.octets.proofs.Bools.{both, each-of-3, each-of-4, first-of, second-of
 use Rattle.fields.specs.Fields.{consDir, timestamp, expTime, travelIngress, travelEgress, expiry}
 use Rattle.standard_path.specs.Header.{infos, hops, infoField}
 use Rattle.interface_table.specs.Table.{stateOf, pairAllowed}
-use Rattle.interface_table.specs.declared.Listed.{Listed}
-use Rattle.interface_table.specs.declared.Listed.the-variants.{State, Nothing}
-use Rattle.validator.specs.Check.{isListed, linkOf, isUpListed}
+use Rattle.validator.specs.Check.{isListed, linkOf}
 use Rattle.edition.specs.declared.Edition.{Edition}
 use Rattle.edition.specs.Edition.{peeringPath, peeringFits}
 use Rattle.itinerary.specs.Itinerary.{Station}
@@ -23,7 +21,7 @@ use Rattle.journey.specs.Check.{all, lengthsPass, macFits, arrivesBy, le
 use Rattle.journey.proofs.Yes.{yes}
 use Rattle.journey.proofs.All.{all-at, all-of}
 use Rattle.journey.proofs.Hops.{Onward, inner, over, start-next}
-use Rattle.journey.proofs.AtStation.{linkGood}
+use Rattle.journey.proofs.Laws.{linkGood}
 use Rattle.journey.proofs.Lengths.{Shape, linked-infos, spare, at-most-three, all-long, all-double, station-among, start-enough, fit-shape, shape-fit}
 use Rattle.journey.proofs.Facts.{HopFacts, AllFacts, shared-plain, shared-linked}
 
@@ -45,15 +43,6 @@ let-in-arrives : (station : Station) (info hop : List ℕ) → (station .arrival
     → arrivesBy station info hop ≡ true
 unfolding arrivesBy
 let-in-arrives station info hop f e = rw (ne-eqb _ _ f) at e
-
-up-listed : (listed : Listed) → isUpListed listed ≡ true → isListed listed ≡ true
-up-listed (State state) e = refl
-up-listed Nothing e = e
-
-leaves-listed : (station : Station) (info hop : List ℕ) → leavesBy station info hop ≡ true
-    → isListed (stateOf (station .ids) (station .states) (travelEgress (consDir info) hop)) ≡ true
-unfolding leavesBy
-leaves-listed station info hop e = up-listed (stateOf (station .ids) (station .states) (travelEgress (consDir info) hop)) e
 
 -- one of two tests, by a third
 chosen : (b x y : Bool) → b ≡ true → cond b x y ≡ true → x ≡ true
@@ -163,6 +152,7 @@ module _ (edition : Edition) (stations : List Station) (earliest latest : ℕ) (
     -- a joint, with its station's number
     record Joining (station : Station) (t m : ℕ) : Type 0 where
       listed : isListed (stateOf (station .ids) (station .states) (travelIngress (consDir (infoField path t)) (hopOf path t m))) ≡ true
+      leads : isListed (stateOf (station .ids) (station .states) (travelEgress (consDir (infoField path (t + 1))) (hopOf path (t + 1) 0))) ≡ true
       allowed : pairAllowed
           (linkOf (stateOf (station .ids) (station .states) (travelIngress (consDir (infoField path t)) (hopOf path t m))))
           (linkOf (stateOf (station .ids) (station .states) (travelEgress (consDir (infoField path (t + 1))) (hopOf path (t + 1) 0))))
@@ -176,9 +166,9 @@ module _ (edition : Edition) (stations : List Station) (earliest latest : ℕ) (
         let station = stationOf edition stations path (t + 1) 0 in
         let into = stateOf (station .ids) (station .states) (travelIngress (consDir (infoField path t)) (hopOf path t (countOf path t - 1))) in
         let out = stateOf (station .ids) (station .states) (travelEgress (consDir (infoField path (t + 1))) (hopOf path (t + 1) 0)) in
-        let held = each-of-3 (isListed into) (pairAllowed (linkOf into) (linkOf out)) _
+        let held = each-of-4 (isListed into) (isListed out) (pairAllowed (linkOf into) (linkOf out)) _
         (other (peeringPath edition path) _ _ plain (joint-passes t h)) in
-        record { listed = held .0; allowed = held .1; came = held .2 }
+        record { listed = held .0; leads = held .1; allowed = held .2; came = held .3 }
 
     -- a peering joint, at its two stations
     joined : peeringPath edition path ≡ true → (t : ℕ) → t + 1 < infos path
@@ -232,11 +222,9 @@ module _ (edition : Edition) (stations : List Station) (earliest latest : ℕ) (
           let here : stationIndex edition path (t + 1) 0 ≡ stationIndex edition path t m =
           omega (arith, start-next path t (omega arith), start-enough shape t (omega arith)) in
           let j = joining plain t h in
-          let out = leaves-listed (stationOf edition stations path (t + 1) 0) (infoField path (t + 1)) (hopOf path (t + 1) 0)
-          (fitting (t + 1) 0 h (omega arith) .goes (omega arith)) in
           subst (λ (n : ℕ). linkGood path (stationOf edition stations path t m) t n ≡ true) last
           (subst (λ (k : ℕ). linkGood path (getD stations k noStation) t (countOf path t - 1) ≡ true) here
-          (both (j .listed) (both out (both (j .allowed) refl))))
+          (both (j .listed) (both (j .leads) (both (j .allowed) refl))))
 
       goes : (t m : ℕ) → t < infos path → m < countOf path t → Onward edition path t m
           → leavesBy (stationOf edition stations path t m) (infoField path t) (hopOf path t m) ≡ true
@@ -337,9 +325,10 @@ module _ (edition : Edition) (stations : List Station) (earliest latest : ℕ) (
         let linked : (isListed into && (isListed out && (pairAllowed (linkOf into) (linkOf out) && true))) ≡ true =
         subst (λ (k : ℕ). linkGood path (getD stations k noStation) t m ≡ true) here
         (facts-of shape counted early at-early t m (omega arith) (omega arith) .link plain (omega arith) h) in
+        let from-15 = second-of (isListed into) _ linked in
         choose-other (peeringPath edition path) _ _ plain
         (both
-        (both (first-of (isListed into) _ linked) (first-of _ true (second-of (isListed out) _ (second-of (isListed into) _ linked))))
+        (both (both (first-of (isListed into) _ linked) (first-of (isListed out) _ from-15)) (first-of _ true (second-of (isListed out) _ from-15)))
         (from-outside (t + 1) 0 h (omega arith) (omega arith)))
 
     linked-good : peeringPath edition path ≡ true → (t : ℕ) → t + 1 < infos path → jointPasses edition stations path t ≡ true

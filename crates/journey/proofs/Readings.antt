@@ -116,7 +116,7 @@ on-alike edition station first second path a b =
 -- a journey ends at its first station or behind it
 ends-behind : (edition : Edition) (stations : List Station) (readings : List ℕ) (k : ℕ) (path : List ℕ) {j : ℕ} {answer : StepAnswer}
     {left : List ℕ}
-    → journey edition k stations readings path ≡ endedAt j answer left → k ≤ j
+    → journey (stepAt edition) k stations readings path ≡ endedAt j answer left → k ≤ j
 unfolding journey
 ends-behind edition [] readings k path e = let z : _≡_ {A = ℕ} 0 1 = cc in absurd (omega arith)
 ends-behind edition (station ∷ stations) [] k path e = let z : _≡_ {A = ℕ} 0 1 = cc in absurd (omega arith)
@@ -125,17 +125,17 @@ ends-behind edition (station ∷ stations) (reading ∷ readings) k path {j} {an
     (λ q. ends-behind edition stations readings (suc k) (stepAt edition station reading path .bytes) q) e
   where
     go : (on : Bool)
-        → (journey edition (suc k) stations readings (stepAt edition station reading path .bytes) ≡ endedAt j answer left → suc k ≤ j)
+        → (journey (stepAt edition) (suc k) stations readings (stepAt edition station reading path .bytes) ≡ endedAt j answer left → suc k ≤ j)
         → orEnds on k (stepAt edition station reading path)
-        (journey edition (suc k) stations readings (stepAt edition station reading path .bytes))
+        (journey (stepAt edition) (suc k) stations readings (stepAt edition station reading path .bytes))
         ≡ endedAt j answer left → k ≤ j
     go true rest q = let l = rest q in omega arith
     go false rest q = let same : k ≡ j = cc in omega arith
 
 -- two journeys over the same stations, from the same bytes, that end at one station with one answer leave the same bytes
 pub same-bytes : (edition : Edition) (stations : List Station) (first second : List ℕ) (k : ℕ) (path : List ℕ) {j : ℕ} {answer : StepAnswer}
-    {left1 left2 : List ℕ} → journey edition k stations first path ≡ endedAt j answer left1
-    → journey edition k stations second path ≡ endedAt j answer left2
+    {left1 left2 : List ℕ} → journey (stepAt edition) k stations first path ≡ endedAt j answer left1
+    → journey (stepAt edition) k stations second path ≡ endedAt j answer left2
     → left1 ≡ left2
 unfolding journey
 same-bytes edition [] first second k path e f = let z : _≡_ {A = ℕ} 0 1 = cc in absurd (omega arith)
@@ -148,13 +148,13 @@ same-bytes edition (station ∷ stations) (reading1 ∷ first) (reading2 ∷ sec
   where
     go : (on1 : Bool) → (goesOn (stepAt edition station reading1 path .answer) && someLeft stations) ≡ on1
         → (on2 : Bool) → (goesOn (stepAt edition station reading2 path .answer) && someLeft stations) ≡ on2
-        → (journey edition (suc k) stations first (stepAt edition station reading1 path .bytes) ≡ endedAt j answer left1
-        → journey edition (suc k) stations second (stepAt edition station reading1 path .bytes) ≡ endedAt j answer left2 → left1 ≡ left2)
+        → (journey (stepAt edition) (suc k) stations first (stepAt edition station reading1 path .bytes) ≡ endedAt j answer left1
+        → journey (stepAt edition) (suc k) stations second (stepAt edition station reading1 path .bytes) ≡ endedAt j answer left2 → left1 ≡ left2)
         → orEnds on1 k (stepAt edition station reading1 path)
-        (journey edition (suc k) stations first (stepAt edition station reading1 path .bytes))
+        (journey (stepAt edition) (suc k) stations first (stepAt edition station reading1 path .bytes))
         ≡ endedAt j answer left1
         → orEnds on2 k (stepAt edition station reading2 path)
-        (journey edition (suc k) stations second (stepAt edition station reading2 path .bytes))
+        (journey (stepAt edition) (suc k) stations second (stepAt edition station reading2 path .bytes))
         ≡ endedAt j answer left2 → left1 ≡ left2
     go true a true b rest e f =
         let alike = on-alike edition station reading1 reading2 path (first-of _ (someLeft stations) a) (first-of _ (someLeft stations) b) in

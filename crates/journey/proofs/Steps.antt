@@ -3,7 +3,7 @@
 use mathlib.Core.Path.{_≡_, refl, ap, sym, subst, _∙_}
 use mathlib.Core.Bool.{true, false}
 use mathlib.Core.List.{List, [], _∷_, _++_}
-use Prim.Native.Nat.{ℕ, zero, suc, _+_, _≤_, _<_}
+use Prim.Native.Nat.{ℕ, zero, suc, _+_, _-_, _≤_, _<_}
 use native.Mathlib.Omega.{arith}
 use borrow.Author.Tests.{le-leb}
 use lib.ListN.{length}
@@ -37,7 +37,7 @@ use Rattle.itinerary.specs.Itinerary.{Station}
 use Rattle.journey.specs.Check.{startOf, countOf, hopOf, chainedSegId, macsFrom}
 use Rattle.journey.specs.Journey.{stepAt}
 use Rattle.journey.proofs.Quiet.{Quiet, quiet-ingress, quiet-egress}
-use Rattle.journey.proofs.Stands.{Stands, checkedSegId, arrivingSegId, hop-here, dir-here, info-among, info-room, enters, segments-on}
+use Rattle.journey.proofs.Stands.{Stands, checkedSegId, arrivingSegId, deliveredSegId, hop-here, dir-here, info-among, info-room, enters, segments-on}
 use Rattle.journey.proofs.Hops.{Hop, Onward, middle, last, joint, placed, inside-onward, in-header, next-in-header, start-next, before-end}
 
 -- what 2, 3, 4 and 25 let through
@@ -113,17 +113,17 @@ abbrev pub leavingThen : List ℕ → Station → ℕ → ℕ → List ℕ → O
 leavingThen path station t m left more = asks Refused (firstNo (leavingTests path station t m left)) left more
 
 -- a path that stands at a hop without alerts is forwarded
-goes-out : {path mid : List ℕ} {t m value : ℕ} → Stands path mid t m value → Quiet (hopOf path t m)
+goes-out : {edition : Edition} {path mid : List ℕ} {t m value : ℕ} → Stands edition path mid t m value → Quiet (hopOf path t m)
     → egressAction mid ≡ Action (ForwardNextHop (wayOf path t m))
 unfolding leavingAction
-goes-out {path} {t = t} s q = rw (hop-here s, dir-here s, quiet-egress q (consDir (infoField path t)))
+goes-out {path = path} {t = t} s q = rw (hop-here s, dir-here s, quiet-egress q (consDir (infoField path t)))
 
 -- all that is checked at a segment change
 abbrev pub changeTests : Edition → List ℕ → Station → ℕ → ℕ → ℕ → Questions
 changeTests edition path station reading t m =
     hopTests edition path station reading t m ++ (linkTests path station t m ++ hopTests edition path station reading (t + 1) 0)
 
-module _ {edition : Edition} {path mid : List ℕ} {t m : ℕ} (g : Given path) (s : Stands path mid t m (arrivingSegId edition path t m))
+module _ {edition : Edition} {path mid : List ℕ} {t m : ℕ} (g : Given path) (s : Stands edition path mid t m (arrivingSegId edition path t m))
     (h : Hop edition path t m)
     {station : Station} (r : Reached station (startOf path t + m)) (reading : ℕ) where
   pub inside : t < infos path
@@ -135,9 +135,9 @@ module _ {edition : Edition} {path mid : List ℕ} {t m : ℕ} (g : Given path) 
   pub quiet-here : Quiet (hopOf path t m)
   quiet-here = g .quiet (startOf path t + m) (omega (arith, before-end path t (h .third), h .within))
 
-  pub stands-after : Stands path after t m (checkedSegId edition path t m)
+  pub stands-after : Stands edition path after t m (checkedSegId edition path t m)
   stands-after =
-      enters edition (g .room) inside s quiet-here (station .arrival) (λ p z. r .local (at-first path t m (h .back p z) z))
+      enters (g .room) inside s quiet-here (station .arrival) (λ p z. r .local (at-first path t m (h .back p z) z))
       (λ l. r .outside (omega arith))
 
   before-valid : firstNo (before (station .ids) (station .states) mid) ≡ Valid
@@ -172,7 +172,7 @@ module _ {edition : Edition} {path mid : List ℕ} {t m : ℕ} (g : Given path) 
         ∙ rw (before-valid, p .valid, p .changing, p .ending, no-alert)
         (rw (
           hop-asked,
-          inside-onward edition stands-after (h .third) (h .within) more,
+          inside-onward stands-after (h .third) (h .within) more,
           goes-out stands-after quiet-here,
           hop-here s,
           dir-here s,
@@ -214,12 +214,14 @@ module _ {edition : Edition} {path mid : List ℕ} {t m : ℕ} (g : Given path) 
     pub quiet-next : Quiet (hopOf path (t + 1) 0)
     quiet-next = g .quiet (startOf path (t + 1) + 0) (omega (arith, start-next path t (behind .0)))
 
-    pub stands-crossed : Stands path crossed (t + 1) 0 (checkedSegId edition path (t + 1) 0)
+    pub stands-crossed : Stands edition path crossed (t + 1) 0 (checkedSegId edition path (t + 1) 0)
     stands-crossed =
         let few : currHf mid + 1 < 64 = omega (arith, s .hf, g .few) in
-        subst (λ (u : ℕ). Stands path (setCurrInf (setCurrHf after (currHf mid + 1)) u) (t + 1) 0 (checkedSegId edition path (t + 1) 0))
+        let last : m ≡ countOf path t - 1 = omega arith in
+        let done : checkedSegId edition path t m ≡ deliveredSegId edition path t = ap (λ (n : ℕ). checkedSegId edition path t n) last in
+        subst (λ (u : ℕ). Stands edition path (setCurrInf (setCurrHf after (currHf mid + 1)) u) (t + 1) 0 (checkedSegId edition path (t + 1) 0))
         (ap (λ (u : ℕ). u + 1) (sym (s .inf)))
-        (segments-on stands-after (g .room) inside edition (currHf mid + 1) (t + 1) next-index few (omega arith) (behind .1))
+        (segments-on stands-after (g .room) inside (currHf mid + 1) (t + 1) next-index few refl (behind .1) done)
 
     change-asked : firstNo
         (ingressQuestions edition (station .ids) (station .states) (keyMac (station .key)) (atIngress (station .arrival) reading false) mid true)

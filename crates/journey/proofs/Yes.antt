@@ -4,7 +4,6 @@ use mathlib.Core.Path.{_≡_, refl, ap, sym, _∙_}
 use mathlib.Core.Bool.{Bool, true, false, _&&_, and-assoc, false≢true}
 use mathlib.Core.List.{List, [], _∷_, _++_}
 use Prim.Native.Nat.{ℕ}
-use Rattle.octets.proofs.Bools.{first-of, second-of}
 use Rattle.answers.specs.Questions.{Questions, firstNo}
 use Rattle.answers.specs.declared.StandardRoutingError.{StandardRoutingError}
 use Rattle.answers.specs.declared.Validation.{Validation}
@@ -52,14 +51,6 @@ module _ (holds : StepAnswer → Bool) (none : (why : StandardRoutingError) → 
       go : (v : Validation) → holds (asks Refused v left more .answer) ≡ (isValid v && holds (more .answer))
       go Valid = refl
       go (Invalid why) = none why
-
-  -- the second of two lists that such an answer has come through
-  pub second-through : (qs rs : Questions) (left after : List ℕ) (more : Outcome StepAnswer)
-      → holds (asks Refused (firstNo qs) left (asks Refused (firstNo rs) after more) .answer) ≡ true → yes rs ≡ true
-  second-through qs rs left after more e =
-      first-of (yes rs) (holds (more .answer))
-      (sym (through rs after more)
-      ∙ second-of (yes qs) _ (sym (through qs left (asks Refused (firstNo rs) after more)) ∙ e))
 
 pub passed-through : (qs : Questions) (left : List ℕ) (more : Outcome StepAnswer) → yes qs ≡ true
     → asks Refused (firstNo qs) left more ≡ more

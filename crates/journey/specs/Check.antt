@@ -77,12 +77,12 @@ segmentFits station earliest latest peer info hop count =
 
 -- ---- a joint: the last hop of a segment and the first of the next, at one station
 
--- 'the first hop's travel ingress is listed and the link pair allowed', and the second hop's arrival
+-- 'the first hop's travel ingress is listed and the link pair allowed', which only two listed interfaces have; and the second hop's arrival
 unfoldable pub jointFits : Station → List ℕ → List ℕ → List ℕ → List ℕ → Bool
 jointFits station info hop nextInfo nextHop =
     let into = stateOf (station .ids) (station .states) (travelIngress (consDir info) hop) in
     let out = stateOf (station .ids) (station .states) (travelEgress (consDir nextInfo) nextHop) in
-    isListed into && pairAllowed (linkOf into) (linkOf out) && arrivesBy station nextInfo nextHop
+    isListed into && isListed out && pairAllowed (linkOf into) (linkOf out) && arrivesBy station nextInfo nextHop
 
 -- F-6: over a peering link, at two stations: the first hop's leaving interface, and the second hop's arrival
 unfoldable pub linkFits : Station → Station → List ℕ → List ℕ → List ℕ → List ℕ → Bool
@@ -112,7 +112,8 @@ peeringHopOf edition path s m = peeringHop edition path (startOf path s + m)
 abbrev pub shared : Edition → List ℕ → ℕ → ℕ
 shared edition path s = cond (peeringPath edition path) 0 s
 
--- the station of hop m of segment s: 'one each, but a segment's last hop and the next segment's first go to one station'
+-- the station of hop m of segment s: 'one each, but a segment's last hop and the next segment's first go to one station'.
+-- Where the lengths fit, each segment before s has a hop or more, so that the subtraction is exact
 abbrev pub stationOf : Edition → List Station → List ℕ → ℕ → ℕ → Station
 stationOf edition stations path s m = getD stations (startOf path s - shared edition path s + m) noStation
 
@@ -121,7 +122,7 @@ segmentPasses edition stations earliest latest path s =
     segmentFits (stationOf edition stations path s) earliest latest (peeringHopOf edition path s) (infoField path s) (hopOf path s)
     (countOf path s)
 
--- from segment s to the next: no clock is read there
+-- from segment s, which has a hop, to the next: no clock is read there
 unfoldable pub jointPasses : Edition → List Station → List ℕ → ℕ → Bool
 jointPasses edition stations path s =
     cond (peeringPath edition path)

@@ -22,9 +22,13 @@ use Rattle.journey.specs.declared.answer.Verdict.{Verdict}
 use Rattle.journey.specs.declared.answer.Verdict.the-variants.{Passed}
 use Rattle.journey.specs.Verdict.{questions, letThrough}
 
+-- what an AS does: at its station and its clock's reading, on the bytes that it gets
+abbrev pub StationStep : Type 0
+StationStep = Station → ℕ → List ℕ → Outcome StepAnswer
+
 -- 'the whole step on these bytes with that station's table, key, arrival interface and reading, MACs not ignored':
 -- the definition that the contract of `handle_standard_path` cites
-unfoldable pub stepAt : Edition → Station → ℕ → List ℕ → Outcome StepAnswer
+unfoldable pub stepAt : Edition → StationStep
 stepAt edition station reading path =
     step edition (station .ids) (station .states) (keyMac (station .key)) (station .arrival) reading false path
 
@@ -49,13 +53,13 @@ abbrev pub orEnds : Bool → ℕ → Outcome StepAnswer → Ended → Ended
 orEnds true k outcome rest = rest
 orEnds false k outcome rest = endedAt k (outcome .answer) (outcome .bytes)
 
--- the journey from station number k on, with the stations left and a clock reading for each
-unfoldable pub journey : Edition → ℕ → List Station → List ℕ → List ℕ → Ended
-journey edition k [] readings path = nowhere
-journey edition k (station ∷ stations) [] path = nowhere
-journey edition k (station ∷ stations) (reading ∷ readings) path =
-    let outcome = stepAt edition station reading path in
-    orEnds (goesOn (outcome .answer) && someLeft stations) k outcome (journey edition (suc k) stations readings (outcome .bytes))
+-- the journey from station number k on, with the step that each runs, the stations left and a clock reading for each
+unfoldable pub journey : StationStep → ℕ → List Station → List ℕ → List ℕ → Ended
+journey at k [] readings path = nowhere
+journey at k (station ∷ stations) [] path = nowhere
+journey at k (station ∷ stations) (reading ∷ readings) path =
+    let outcome = at station reading path in
+    orEnds (goesOn (outcome .answer) && someLeft stations) k outcome (journey at (suc k) stations readings (outcome .bytes))
 
 unfoldable pub delivers : StepAnswer → Bool
 delivers (Action (ForwardNextHop interface)) = false
@@ -69,8 +73,8 @@ unfoldable pub endedWell : ℕ → Ended → Bool
 endedWell count nowhere = false
 endedWell count (endedAt k answer left) = eqb (suc k) count && delivers answer
 
-unfoldable pub arrives : Edition → List Station → List ℕ → List ℕ → Bool
-arrives edition stations readings path = endedWell (length stations) (journey edition 0 stations readings path)
+unfoldable pub arrives : StationStep → List Station → List ℕ → List ℕ → Bool
+arrives at stations readings path = endedWell (length stations) (journey at 0 stations readings path)
 
 -- 'a list of clock readings, one for each station, each from earliest to latest, both included'
 pub record Readings (stations : List Station) (earliest latest : ℕ) (readings : List ℕ) : Type 0 where
@@ -79,13 +83,13 @@ pub record Readings (stations : List Station) (earliest latest : ℕ) (readings 
   pub before : (k : ℕ) → k < length readings → getD readings k 0 ≤ latest
 
 -- 'The path travels if it arrives for every such list.'
-unfoldable pub Travels : Edition → List Station → ℕ → ℕ → List ℕ → Type 0
-Travels edition stations earliest latest path =
-    (readings : List ℕ) → Readings stations earliest latest readings → arrives edition stations readings path ≡ true
+unfoldable pub Travels : StationStep → List Station → ℕ → ℕ → List ℕ → Type 0
+Travels at stations earliest latest path =
+    (readings : List ℕ) → Readings stations earliest latest readings → arrives at stations readings path ≡ true
 
 -- Demand 3, of a verdict: for each call that 2 to 4 and 23 to 25 let through it is passed exactly if the path travels.
 -- The check's definition, `journeyCheck`, meets it: `demand-3` in proofs/Demand3.antt. So does the check's code, by its contract.
 unfoldable pub Demand3 : Edition → Layout → List ℕ → ℕ → ℕ → List ℕ → Verdict → Type 0
 Demand3 edition layout itinerary earliest latest path verdict =
     letThrough (questions edition layout itinerary earliest latest path) ≡ true
-    → (verdict ≡ Passed) ↔ Travels edition (stations layout itinerary) earliest latest path
+    → (verdict ≡ Passed) ↔ Travels (stepAt edition) (stations layout itinerary) earliest latest path

@@ -25,7 +25,8 @@ journeyNumber UnfitItinerary = 23
 journeyNumber NotAtStart = 24
 journeyNumber AlertSet = 25
 
--- 'station count = hops − infos + 1'; F-6: 'a peering path has as many stations as hops'
+-- 'station count = hops − infos + 1', each info field standing for a length that is not 0, so that there are as many hops or more;
+-- F-6: 'a peering path has as many stations as hops'
 abbrev pub stationCount : Edition → List ℕ → ℕ
 stationCount edition path = cond (peeringPath edition path) (hops path) (hops path - infos path + 1)
 

@@ -9,20 +9,10 @@ use standard_path::view;
 ghost use mathlib.Core.Path.{_≡_};
 ghost use Prim.Native.Nat.{_+_, _-_, _<_};
 ghost use Rattle.standard_path.specs.Header.{infos};
-ghost use Rattle.validator.specs.Check.{linkOf};
 ghost use Rattle.records.specs.Layout.{narrow};
 ghost use Rattle.itinerary.specs.Itinerary.{stationAt, stations};
 ghost use Rattle.journey.specs.Check.{all, linkFits, jointFits, jointPasses};
 ghost use Rattle.journey_check.specs.Matched.{Matched};
-
-fn link_of(listed: Listed) -> u8
-    ensures { λ r. ⌜ r ≡ linkOf listed ⌝ }
-{
-    match listed {
-        Listed::State(state) => interface_table::link_type(state),
-        Listed::Nothing => 0,
-    }
-}
 
 // From a hop to the next segment's first, at the station with this record.
 fn joint_fits(
@@ -36,16 +26,21 @@ fn joint_fits(
     ensures { λ r. ⌜ r ≡ jointFits (stationAt narrow (now (itinerary .entry)) station) (now (info .entry)) (now (hop .entry))
         (now («next_info» .entry)) (now («next_hop» .entry)) ⌝ }
 {
-    let Listed::State(state) = lookup(itinerary, station, fields::ingress_interface(hop, info))
+    let Listed::State(into) = lookup(itinerary, station, fields::ingress_interface(hop, info))
     else {
         return false;
     };
-    let out = lookup(
+    let Listed::State(out) = lookup(
         itinerary,
         station,
         fields::egress_interface(next_hop, next_info),
-    );
-    interface_table::is_allowed_pair(interface_table::link_type(state), link_of(out))
+    ) else {
+        return false;
+    };
+    interface_table::is_allowed_pair(
+        interface_table::link_type(into),
+        interface_table::link_type(out),
+    )
         & hops::arrives_by(itinerary, station, next_info, next_hop)
 }
 

@@ -86,7 +86,7 @@ abbrev pub isUpListed : Listed → Bool
 isUpListed (State state) = isUp state
 isUpListed Nothing = false
 
--- the link type of a listed interface; where one is not listed, 14, 15 or the journey's leaving interface has said no already
+-- the link type of a listed interface; where one is not listed, 14, 15 or the journey check's own test of it has said no already
 abbrev pub linkOf : Listed → ℕ
 linkOf (State state) = linkType state
 linkOf Nothing = 0

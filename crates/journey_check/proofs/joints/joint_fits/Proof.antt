@@ -13,21 +13,40 @@ returns c =
 returns-2 : tie.Need-returns-2
 unfolding jointFits
 returns-2 c =
-    let ingress-interface = c .before .before .before .before .before .before .before .before .before .before .ingress-interface in
-    let lookup = c .before .before .before .before .before .before .before .before .before .lookup in
-    let state = c .before .before .before .before .before .before .before .state in
-    let egress-interface = c .before .before .before .before .before .egress-interface in
-    let lookup2 = c .before .before .before .before .lookup2 in
-    let link-of = c .before .before .link-of in
+    let ingress-interface = c .before .before .before .before .before .before .before .before .ingress-interface in
+    let lookup = c .before .before .before .before .before .before .before .lookup in
+    let into = c .before .before .before .before .before .into in
+    let egress-interface = c .before .before .before .egress-interface in
+    let lookup2 = c .before .before .lookup2 in
+    rw (
+      ← ingress-interface .ensures,
+      ← lookup .ensures,
+      into .given .1,
+      ← egress-interface .ensures,
+      ← lookup2 .ensures,
+      c .enum-told2 .given .1,
+    )
+
+returns-3 : tie.Need-returns-3
+unfolding jointFits
+returns-3 c =
+    let at-out = c .before .before .before .before .before in
+    let at-into = at-out .before .before .before .before .before in
+    let lookup2 = at-out .before .before .lookup2 in
+    let egress-interface = at-out .before .before .before .egress-interface in
+    let lookup = at-into .before .before .lookup in
+    let ingress-interface = at-into .before .before .before .ingress-interface in
+    let link-type2 = c .before .before .link-type2 in
     let link-type = c .before .before .before .link-type in
     rw (
       ← ingress-interface .ensures,
       ← lookup .ensures,
-      state .given .1,
+      at-into .into .given .1,
       ← egress-interface .ensures,
       ← lookup2 .ensures,
-      ← link-of .ensures,
+      at-out .out .given .1,
       ← link-type .ensures,
+      ← link-type2 .ensures,
       ← c .before .is-allowed-pair .ensures,
       ← c .arrives-by .ensures,
     )
@@ -43,8 +62,11 @@ joint-fits-spec =
     returns
     (λ c κs. search needs)
     (λ c κs. search needs)
+    (λ c. search needs)
+    (λ c. search needs)
+    returns-2
     (λ c κs. search needs)
     (λ c κs. search needs)
     (λ c κs. search needs)
     (λ c κs. search needs)
-    returns-2)
+    returns-3)
