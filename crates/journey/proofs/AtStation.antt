@@ -8,6 +8,8 @@ use Prim.Native.Nat.{ℕ, _+_, _<_}
 use native.Mathlib.Omega.{arith}
 use borrow.Author.Tests.{le-leb}
 use lib.Dec.{leb}
+use Rattle.questions.proofs.Asked.{yes-append}
+use Rattle.questions.specs.Questions.{allYes}
 use Rattle.octets.proofs.Bools.{both, each-of}
 use Rattle.standard_path.specs.Meta.{currInf, currHf}
 use Rattle.standard_path.specs.Header.{hops, infoField}
@@ -32,7 +34,7 @@ use Rattle.moves.specs.Moves.{egressMove}
 use Rattle.itinerary.specs.Itinerary.{Station}
 use Rattle.journey.specs.Check.{startOf, countOf, hopOf, leavesBy}
 use Rattle.journey.specs.Journey.{stepAt, goesOn, delivers}
-use Rattle.journey.proofs.Yes.{yes, yes-valid, yes-append, through, passed-through}
+use Rattle.journey.proofs.Yes.{yes-valid, through, passed-through}
 use Rattle.journey.proofs.Stands.{Stands, arrivingSegId, leaves, leaves-over}
 use Rattle.journey.proofs.Hops.{Hop, Onward, inner, over, nextSegment, nextPlace, Kind, middle, last, joint, inner-stays, over-crosses, over-peer, over-before, inside-first, start-next, next-in-header, before-end}
 use Rattle.journey.proofs.Steps.{Given, Reached, before-asked, hopTests, linkTests, leavingTests, wayOf, changeTests, enteredAt, crossedAt, forwarded, insideThen, leavingThen, middle-step, last-step, joint-step, inside, quiet-here, stands-after, quiet-next, behind, stands-crossed}
@@ -45,8 +47,8 @@ up-is-listed (State state) = and-true _
 up-is-listed Nothing = refl
 
 leaving-yes : (path : List ℕ) (station : Station) (t m : ℕ) (after : List ℕ)
-    → yes (leavingTests path station t m after) ≡ leavesBy station (infoField path t) (hopOf path t m)
-unfolding yes leavesBy
+    → allYes (leavingTests path station t m after) ≡ leavesBy station (infoField path t) (hopOf path t m)
+unfolding allYes leavesBy
 leaving-yes path station t m after = up-is-listed (stateOf (station .ids) (station .states) (wayOf path t m))
 
 refused-not-on : (why : StandardRoutingError) → goesOn (Refused why) ≡ false
@@ -177,12 +179,12 @@ module _ {edition : Edition} {path mid : List ℕ} {t m : ℕ} (g : Given path) 
     abbrev leavingAcross : Outcome StepAnswer
     leavingAcross = leavingThen path station (t + 1) 0 crossed (insideThen edition crossed acrossOn)
 
-    checks-yes : yes (changeTests edition path station reading t m) ≡ changeGood edition path station reading t m
+    checks-yes : allYes (changeTests edition path station reading t m) ≡ changeGood edition path station reading t m
     checks-yes =
         yes-append (hopTests edition path station reading t m) _
         ∙ ap (λ (b : Bool). hopGood edition path station reading t m && b) (yes-append (linkTests path station t m) _)
 
-    inside-yes : yes (insideQuestions edition crossed) ≡ leb 2 (countOf path (t + 1))
+    inside-yes : allYes (insideQuestions edition crossed) ≡ leb 2 (countOf path (t + 1))
     inside-yes =
         inside-first (stands-crossed g s h r reading plain e f) plain (behind g s h r reading plain e f .0)
         (omega (arith, start-next path t (behind g s h r reading plain e f .0)))
@@ -257,14 +259,14 @@ module _ (edition : Edition) (path : List ℕ) (station : Station) (reading : �
   abbrev Stopped : Type 0
   Stopped = refusedWith (stopNumbers edition) (stepAt edition station reading path .answer) ≡ true
 
-  lengths-stop : yes (firstThree edition path) ≡ false → Stopped
+  lengths-stop : allYes (firstThree edition path) ≡ false → Stopped
   unfolding stepAt
   lengths-stop short =
       rw (step-asks edition (station .ids) (station .states) (keyMac (station .key)) (station .arrival) reading false path)
       (rw (before-asked (station .ids) (station .states) g (kept-self path) sound)
       (first-refused edition (firstThree edition path) (eights edition path ++ peeringQuestions edition path) path _ refl short))
 
-  peering-stops : yes (firstThree edition path) ≡ true → peeringFits edition path ≡ false → Stopped
+  peering-stops : allYes (firstThree edition path) ≡ true → peeringFits edition path ≡ false → Stopped
   unfolding stepAt
   peering-stops begins wrong =
       rw (step-asks edition (station .ids) (station .states) (keyMac (station .key)) (station .arrival) reading false path)
@@ -274,9 +276,9 @@ module _ (edition : Edition) (path : List ℕ) (station : Station) (reading : �
       (peering-refused edition path _ wrong)))
 
   at-first : Hop edition path 0 0 ⊎ Stopped
-  at-first = go (yes (firstThree edition path)) refl (peeringFits edition path) refl
+  at-first = go (allYes (firstThree edition path)) refl (peeringFits edition path) refl
     where
-      go : (begins : Bool) → yes (firstThree edition path) ≡ begins → (fits : Bool) → peeringFits edition path ≡ fits
+      go : (begins : Bool) → allYes (firstThree edition path) ≡ begins → (fits : Bool) → peeringFits edition path ≡ fits
           → Hop edition path 0 0 ⊎ Stopped
       go false e fits f = inr (lengths-stop e)
       go true e false f = inr (peering-stops e f)

@@ -8,20 +8,22 @@ use mathlib.Core.Logic.{inr, ⊎-elim}
 use Prim.Native.Nat.{ℕ, _+_, _≤_}
 use native.Mathlib.Omega.{arith}
 use lib.ListN.{length, replicate}
+use Rattle.questions.proofs.Asked.{asks-yes}
+use Rattle.questions.specs.Questions.{allYes}
 use Rattle.standard_path.specs.Header.{infos, hops}
 use Rattle.edition.specs.declared.Edition.{Edition}
 use Rattle.edition.specs.Edition.{peeringPath}
 use Rattle.records.specs.Layout.{Layout}
 use Rattle.itinerary.specs.Itinerary.{Station, stations}
-use Rattle.journey.specs.declared.answer.Verdict.the-variants.{Passed}
+use Rattle.journey.specs.declared.answer.Verdict.the-variants.{Passed, Refused}
 use Rattle.journey.specs.Journey.{StationStep, stepAt, journey, arrives}
-use Rattle.journey.specs.Verdict.{questions, journeyCheck, letThrough}
+use Rattle.journey.specs.Verdict.{questions, journeyCheck}
 use Rattle.journey.proofs.Lengths.{linked-infos}
 use Rattle.journey.proofs.Parts.{shared-first}
 use Rattle.journey.proofs.Laws.{Laws}
 use Rattle.journey.proofs.AtStation.{at-station}
 use Rattle.journey.proofs.Ends.{stopped, Ends, ends-from}
-use Rattle.journey.proofs.LetThrough.{Asked, infos-few, asked, first-no-none}
+use Rattle.journey.proofs.LetThrough.{Asked, infos-few, asked}
 use Rattle.journey.proofs.Demand3.{starts, reached, first-or-stopped, two-runs}
 
 module _ {edition : Edition} {at : StationStep} (laws : Laws edition at) {path : List ℕ} {plan : List Station} {earliest latest : ℕ}
@@ -45,7 +47,7 @@ module _ {edition : Edition} {at : StationStep} (laws : Laws edition at) {path :
       (first-or-stopped laws a plan readings (a .sound) some-stations (omega (arith, some-stations)))
 
 module _ (edition : Edition) (layout : Layout) (itinerary : List ℕ) (earliest latest : ℕ) (path : List ℕ)
-    (e : letThrough (questions edition layout itinerary earliest latest path) ≡ true) where
+    (e : allYes (questions edition layout itinerary earliest latest path) ≡ true) where
   abbrev plan : List Station
   plan = stations layout itinerary
 
@@ -55,7 +57,7 @@ module _ (edition : Edition) (layout : Layout) (itinerary : List ℕ) (earliest 
       → journeyCheck edition layout itinerary earliest latest path ≡ Passed
   unfolding journeyCheck
   both-pass early late =
-      first-no-none (questions edition layout itinerary earliest latest path) _ e
+      asks-yes Refused (questions edition layout itinerary earliest latest path) _ e
       ∙ rw (two-runs (at-station edition) (asked edition layout itinerary earliest latest path e) early late)
 
   -- a journey that does not arrive ends with a refusal, by 5, 6, 7, 9 to 12, 14 to 18, or, in the second edition, 28

@@ -7,6 +7,7 @@ use mathlib.Core.Logic.{_↔_, _⊎_, inl, inr, ⊎-elim}
 use Prim.Native.Nat.{ℕ, suc, _+_, _≤_, _<_}
 use native.Mathlib.Omega.{arith}
 use lib.ListN.{length, getD, replicate, length-replicate, getD-replicate}
+use Rattle.questions.proofs.Asked.{asks-yes}
 use Rattle.hop_mac.specs.Mac.{macChainingBeta}
 use Rattle.fields.specs.Fields.{consDir, segId}
 use Rattle.standard_path.specs.Header.{infoField}
@@ -16,7 +17,7 @@ use Rattle.moves.proofs.Touched.{same-info}
 use Rattle.edition.specs.declared.Edition.{Edition}
 use Rattle.records.specs.Layout.{Layout}
 use Rattle.itinerary.specs.Itinerary.{Station, stations}
-use Rattle.journey.specs.declared.answer.Verdict.the-variants.{Passed, NotPassed}
+use Rattle.journey.specs.declared.answer.Verdict.the-variants.{Passed, NotPassed, Refused}
 use Rattle.journey.specs.Check.{noStation, chainedSegId, macsFrom, passes}
 use Rattle.journey.specs.Journey.{StationStep, journey, endedWell, arrives, Readings, Travels, Demand3}
 use Rattle.journey.specs.Verdict.{questions, journeyCheck}
@@ -30,7 +31,7 @@ use Rattle.journey.proofs.Lengths.{Shape, first-of-shape}
 use Rattle.journey.proofs.Facts.{AllFacts, along-facts, facts-along, along-shape}
 use Rattle.journey.proofs.Parts.{shared-first, passes-fits, passes-shape, check-facts, facts-check}
 use Rattle.journey.proofs.Ends.{stopped, stopped-unwell, stops-here}
-use Rattle.journey.proofs.LetThrough.{Asked, asked, first-no-none}
+use Rattle.journey.proofs.LetThrough.{Asked, asked}
 
 module _ {edition : Edition} {path : List ℕ} {stations : List Station} {earliest latest : ℕ}
     (a : Asked edition path stations earliest latest) where
@@ -173,7 +174,7 @@ pub demand-3 : (edition : Edition) (layout : Layout) (itinerary : List ℕ) (ear
     → Demand3 edition layout itinerary earliest latest path (journeyCheck edition layout itinerary earliest latest path)
 unfolding Demand3 journeyCheck
 demand-3 edition layout itinerary earliest latest path e =
-    let verdict = first-no-none (questions edition layout itinerary earliest latest path)
+    let verdict = asks-yes Refused (questions edition layout itinerary earliest latest path)
     (cond (passes edition (stations layout itinerary) earliest latest path) Passed NotPassed) e in
     let theorem = check-travels (at-station edition) (asked edition layout itinerary earliest latest path e) in (
       (λ q. theorem .0 (passed-is (passes edition (stations layout itinerary) earliest latest path) (sym verdict ∙ q))),

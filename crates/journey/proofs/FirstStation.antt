@@ -8,6 +8,7 @@ use Prim.Native.Nat.{ℕ, zero, suc, _+_, _≤_, _<_}
 use native.Mathlib.Omega.{arith}
 use borrow.Author.Tests.{eqb-true, eqb-false, not-true, ltb-true, lt-ltb}
 use lib.Dec.{eqb, ltb}
+use Rattle.questions.specs.Questions.{allYes}
 use Rattle.octets.proofs.Bools.{first-of, second-of, other-of}
 use Rattle.standard_path.specs.Meta.{currInf, currHf, seg0Len, seg1Len}
 use Rattle.standard_path.specs.Header.{infos, hops, segmentOf}
@@ -20,7 +21,6 @@ use Rattle.edition.specs.declared.Edition.{Edition}
 use Rattle.edition.specs.Edition.{peeringPath, peeringQuestions}
 use Rattle.place.specs.Place.{segment, ends, isPeeringHop, alone, changes}
 use Rattle.journey.specs.Check.{countOf}
-use Rattle.journey.proofs.Yes.{yes}
 use Rattle.journey.proofs.Hops.{Hop}
 
 -- 5, 6 and 7; then 8, and 28
@@ -44,8 +44,8 @@ pub record Begun (edition : Edition) (path : List ℕ) : Type 0 where
   pub two : peeringPath edition path ≡ false → 2 ≤ seg0Len path
 
 module _ (edition : Edition) (path : List ℕ) (hf : currHf path ≡ 0) (inf : currInf path ≡ 0) where
-  pub begun : yes (firstThree edition path) ≡ true → Begun edition path
-  unfolding yes
+  pub begun : allYes (firstThree edition path) ≡ true → Begun edition path
+  unfolding allYes
   begun e =
       let from-6 = second-of (ltb (currHf path) (hops path)) _ e in
       let from-7 = second-of (peeringPath edition path || not (alone path)) _ from-6 in

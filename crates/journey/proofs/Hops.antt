@@ -7,6 +7,7 @@ use Prim.Native.Nat.{ℕ, zero, suc, _+_, _≤_, _<_}
 use native.Mathlib.Omega.{arith}
 use borrow.Author.Tests.{eqb-true, eqb-false, eq-eqb, ne-eqb, ltb-true, ltb-false, lt-ltb, le-ltb, le-leb, lt-leb, leb-true, leb-false}
 use lib.Dec.{eqb, ltb, leb}
+use Rattle.questions.specs.Questions.{allYes}
 use Rattle.standard_path.specs.Meta.{currInf, currHf, seg0Len, seg1Len, seg2Len}
 use Rattle.standard_path.specs.Header.{infos, hops, segmentOf, segmentEnd}
 use Rattle.standard_path.proofs.Kept.{infos-kept, hops-kept}
@@ -19,7 +20,7 @@ use Rattle.edition.proofs.Peering.{Peering, peering-lengths}
 use Rattle.place.specs.Place.{segment, starts, ends, isFinal, isPeeringHop, crosses, changes, ingressPlace}
 use Rattle.routing.proofs.Inside.{insideQuestions}
 use Rattle.journey.specs.Check.{startOf, countOf, peeringHopOf}
-use Rattle.journey.proofs.Yes.{isValid, yes, valid-yes}
+use Rattle.journey.proofs.Yes.{isValid, valid-yes}
 use Rattle.journey.proofs.Stands.{Stands, peering-path-here, fits-here, peer-here, crosses-here}
 
 -- ---- hop m of segment t, which the path comes to: this segment and all before it have two hops or more, on a peering path one or more;
@@ -337,8 +338,8 @@ module _ {edition : Edition} {path mid : List ℕ} {t value : ℕ} (s : Stands e
   no-crossing : crosses edition mid ≡ false
   no-crossing = rw (peering-path-here s, plain)
 
-  pub inside-first : yes (insideQuestions edition mid) ≡ leb 2 (countOf path (t + 1))
-  unfolding yes
+  pub inside-first : allYes (insideQuestions edition mid) ≡ leb 2 (countOf path (t + 1))
+  unfolding allYes
   inside-first = go (leb 2 (countOf path (t + 1))) refl
     where
       some : (none : Bool) → eqb (countOf path (t + 1)) 0 ≡ none → countOf path (t + 1) < 2

@@ -8,6 +8,7 @@ use mathlib.Core.Logic.{_⊎_}
 use Prim.Native.Nat.{ℕ, _+_, _≤_}
 use borrow.Author.Tests.{leb-true}
 use lib.Dec.{leb}
+use Rattle.questions.specs.Questions.{allYes}
 use Rattle.octets.proofs.Bools.{each-of}
 use Rattle.standard_path.specs.Meta.{currInf, currHf}
 use Rattle.standard_path.specs.Header.{infoField}
@@ -18,7 +19,6 @@ use Rattle.edition.specs.declared.Edition.{Edition}
 use Rattle.itinerary.specs.Itinerary.{Station}
 use Rattle.journey.specs.Check.{startOf, countOf, hopOf, leavesBy}
 use Rattle.journey.specs.Journey.{StationStep, goesOn, delivers}
-use Rattle.journey.proofs.Yes.{yes}
 use Rattle.journey.proofs.Stands.{Stands, arrivingSegId}
 use Rattle.journey.proofs.Hops.{Hop, nextSegment, nextPlace, Kind, middle, last, joint, isLast}
 use Rattle.journey.proofs.Steps.{Given, Reached, hopTests, linkTests}
@@ -29,7 +29,7 @@ use Rattle.journey.proofs.Stops.{stopNumbers, refusedWith}
 module _ (path : List ℕ) where
   -- 14 to 16
   abbrev pub linkGood : Station → ℕ → ℕ → Bool
-  linkGood station t m = yes (linkTests path station t m)
+  linkGood station t m = allYes (linkTests path station t m)
 
   -- 15 and 17
   abbrev pub wayGood : Station → ℕ → ℕ → Bool
@@ -38,7 +38,7 @@ module _ (path : List ℕ) where
 module _ (edition : Edition) (path : List ℕ) where
   -- 9 to 12
   abbrev pub hopGood : Station → ℕ → ℕ → ℕ → Bool
-  hopGood station reading t m = yes (hopTests edition path station reading t m)
+  hopGood station reading t m = allYes (hopTests edition path station reading t m)
 
   -- all that is checked at a segment change
   abbrev pub changeGood : Station → ℕ → ℕ → ℕ → Bool

@@ -8,6 +8,7 @@ use native.Mathlib.Omega.{arith}
 use borrow.Author.Tests.{eqb-true, eqb-false, leb-true, not-true}
 use lib.Dec.{eqb, leb}
 use lib.ListN.{length, getD}
+use Rattle.questions.specs.Questions.{allYes}
 use Rattle.octets.proofs.Bools.{each-of-4, first-of, second-of}
 use Rattle.standard_path.specs.Meta.{currInf, currHf}
 use Rattle.fields.specs.Fields.{consIngressAlert, consEgressAlert}
@@ -18,9 +19,8 @@ use Rattle.edition.specs.Edition.{peeringPath}
 use Rattle.records.specs.Layout.{Layout}
 use Rattle.itinerary.specs.Itinerary.{Station, stations, itinerarySound, arrivalsFit, tablesSound, itineraryFits, fitsWithin}
 use Rattle.records.proofs.Every.{every-at}
-use Rattle.journey.specs.declared.answer.Verdict.{Verdict}
 use Rattle.journey.specs.Check.{noStation}
-use Rattle.journey.specs.Verdict.{stationCount, quiet, Question, questions, firstNo, letThrough}
+use Rattle.journey.specs.Verdict.{stationCount, quiet, questions}
 use Rattle.journey.proofs.Quiet.{Quiet}
 use Rattle.journey.proofs.Steps.{Given}
 use Rattle.journey.proofs.All.{all-at}
@@ -53,7 +53,7 @@ unfolding infos hops
 infos-few path = omega arith
 
 module _ (edition : Edition) (layout : Layout) (itinerary : List ℕ) (earliest latest : ℕ) (path : List ℕ)
-    (e : letThrough (questions edition layout itinerary earliest latest path) ≡ true) where
+    (e : allYes (questions edition layout itinerary earliest latest path) ≡ true) where
   abbrev all-stations : List Station
   all-stations = stations layout itinerary
 
@@ -72,7 +72,7 @@ module _ (edition : Edition) (layout : Layout) (itinerary : List ℕ) (earliest 
   counts false many = omega (arith, infos-few path)
 
   pub asked : Asked edition path all-stations earliest latest
-  unfolding letThrough fitsWithin tablesSound
+  unfolding allYes fitsWithin tablesSound
   asked =
       let from-3 = second-of (leb 4 (length path)) _ e in
       let from-4 = second-of (leb (headerSize path) (length path)) _ from-3 in
@@ -100,9 +100,3 @@ module _ (edition : Edition) (layout : Layout) (itinerary : List ℕ) (earliest 
         hf = eqb-true _ _ (first-of (eqb (currHf path) 0) _ place);
         inf = eqb-true _ _ (second-of (eqb (currHf path) 0) _ place);
       }
-
-pub first-no-none : (qs : List Question) (verdict : Verdict) → letThrough qs ≡ true → firstNo qs verdict ≡ verdict
-unfolding letThrough firstNo
-first-no-none [] verdict e = refl
-first-no-none (question ∷ more) verdict e =
-    rw (first-of (question .0) _ e) (first-no-none more verdict (second-of (question .0) _ e))

@@ -9,6 +9,7 @@ use native.Mathlib.Nat.{le-trans}
 use borrow.Author.Tests.{eqb-false, eq-eqb, ne-eqb, le-leb, lt-leb, leb-true, leb-false}
 use lib.Dec.{eqb, leb}
 use lib.ListN.{length, getD}
+use Rattle.questions.specs.Questions.{allYes}
 use Rattle.octets.proofs.Bools.{both, each-of-3, each-of-4, first-of, second-of, either, other-of}
 use Rattle.fields.specs.Fields.{consDir, timestamp, expTime, travelIngress, travelEgress, expiry}
 use Rattle.standard_path.specs.Header.{infos, hops, infoField}
@@ -18,7 +19,6 @@ use Rattle.edition.specs.declared.Edition.{Edition}
 use Rattle.edition.specs.Edition.{peeringPath, peeringFits}
 use Rattle.itinerary.specs.Itinerary.{Station}
 use Rattle.journey.specs.Check.{all, lengthsPass, macFits, arrivesBy, leavesBy, hopFits, segmentFits, linkFits, jointFits, peeringHopOf, shared, startOf, countOf, hopOf, noStation, stationOf, segmentPasses, jointPasses, passes}
-use Rattle.journey.proofs.Yes.{yes}
 use Rattle.journey.proofs.All.{all-at, all-of}
 use Rattle.journey.proofs.Hops.{Onward, inner, over, start-next}
 use Rattle.journey.proofs.Laws.{linkGood}
@@ -211,7 +211,7 @@ module _ (edition : Edition) (stations : List Station) (earliest latest : ℕ) (
       -- 14 to 16, at the station of a segment's last hop
       linked : peeringPath edition path ≡ false → (t m : ℕ) → t + 1 < infos path → m + 1 ≡ countOf path t
           → linkGood path (stationOf edition stations path t m) t m ≡ true
-      unfolding yes
+      unfolding allYes
       linked plain t m h e =
           let shape = passes-shape in
           let long = all-double shape plain (t + 1) h in
@@ -236,7 +236,7 @@ module _ (edition : Edition) (stations : List Station) (earliest latest : ℕ) (
 
       pub check-facts : (readings : List ℕ) → ((k : ℕ) → k < length stations → earliest ≤ getD readings k 0)
           → ((k : ℕ) → k < length stations → getD readings k 0 ≤ latest) → AllFacts edition path 0 0 stations readings
-      unfolding yes macFits
+      unfolding allYes macFits
       check-facts readings low high i t m l h w q =
           let here : stationIndex edition path t m ≡ i = omega (arith, start-enough passes-shape t h, shared-first edition path) in
           let f = fitting t m h w in
@@ -263,7 +263,7 @@ module _ (edition : Edition) (stations : List Station) (earliest latest : ℕ) (
 
     told : (readings : List ℕ) → AllFacts edition path 0 0 stations readings → (t m : ℕ) → t < infos path → m < countOf path t
         → Told (getD readings (stationIndex edition path t m) 0) t m
-    unfolding yes macFits
+    unfolding allYes macFits
     told readings facts t m h w =
         let reading = getD readings (stationIndex edition path t m) 0 in
         let four = facts-of shape counted readings facts t m h w .good in
@@ -308,7 +308,7 @@ module _ (edition : Edition) (stations : List Station) (earliest latest : ℕ) (
         (all-of (countOf path t) _ (λ m w. hop-passes t m h w))
 
     plain-good : peeringPath edition path ≡ false → (t : ℕ) → t + 1 < infos path → jointPasses edition stations path t ≡ true
-    unfolding jointPasses jointFits yes
+    unfolding jointPasses jointFits allYes
     plain-good plain t h =
         let long = all-double shape plain t (omega arith) in
         let long-next = all-double shape plain (t + 1) h in

@@ -6,6 +6,7 @@ use mathlib.Core.List.{List, [], _∷_}
 use Prim.Native.Nat.{ℕ, suc, _≤_}
 use native.Mathlib.Omega.{arith}
 use lib.Dec.{eqb}
+use Rattle.answers.proofs.Asked.{told}
 use Rattle.octets.proofs.Bools.{first-of}
 use Rattle.fields.specs.Fields.{consDir, travelEgress, travelEgressAlert}
 use Rattle.answers.specs.Questions.{firstNo}
@@ -16,7 +17,7 @@ use Rattle.answers.specs.declared.AsRoutingAction.the-variants.{Local, ForwardN
 use Rattle.answers.specs.declared.StepAnswer.{StepAnswer}
 use Rattle.answers.specs.declared.StepAnswer.the-variants.{Action, Refused}
 use Rattle.edition.specs.declared.Edition.{Edition}
-use Rattle.answers.specs.Outcome.{Outcome, asks}
+use Rattle.answers.specs.Outcome.{Outcome, leaves}
 use Rattle.place.specs.Place.{before, changes, isFinal, ingressPlace, hop, info}
 use Rattle.moves.specs.Moves.{ingressMove, egressMove}
 use Rattle.ingress.specs.Ingress.{alertsAtIngress}
@@ -78,13 +79,13 @@ bytes-by-answer edition station reading path =
   where
     go : (entered : List ℕ) (first place passed : Validation) (alert final : Bool) (leaving inside : Validation)
         → let outcome : Outcome StepAnswer =
-        asks Refused first path
-        (asks Refused place path
-        (asks Refused passed entered
+        told (leaves Refused path) first
+        (told (leaves Refused path) place
+        (told (leaves Refused entered) passed
         (cond alert (record { answer = Action (Local (IngressSCMPHandleRequest (station .arrival))); bytes = entered })
         (cond final (record { answer = Action (Local ForwardLocal); bytes = entered })
-        (asks Refused leaving entered
-        (asks Refused inside entered (record { answer = egressAction entered; bytes = egressMove edition entered }))))))) in
+        (told (leaves Refused entered) leaving
+        (told (leaves Refused entered) inside (record { answer = egressAction entered; bytes = egressMove edition entered }))))))) in
         outcome .bytes ≡ bytesAfter first place path entered (egressMove edition entered) (leftByEgress (outcome .answer))
     go entered (Invalid why) place passed alert final leaving inside = refl
     go entered Valid (Invalid why) passed alert final leaving inside = refl

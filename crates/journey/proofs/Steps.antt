@@ -7,6 +7,7 @@ use Prim.Native.Nat.{ℕ, zero, suc, _+_, _-_, _≤_, _<_}
 use native.Mathlib.Omega.{arith}
 use borrow.Author.Tests.{le-leb}
 use lib.ListN.{length}
+use Rattle.questions.specs.Questions.{asks}
 use Rattle.hop_mac.specs.Mac.{macChainingBeta}
 use Rattle.standard_path.specs.Meta.{currInf, currHf, setCurrInf, setCurrHf}
 use Rattle.fields.specs.Fields.{consDir, segId, timestamp, travelIngress, travelEgress}
@@ -21,8 +22,8 @@ use Rattle.answers.specs.declared.LocalAsRoutingAction.the-variants.{ForwardLoc
 use Rattle.answers.specs.declared.AsRoutingAction.the-variants.{Local, ForwardNextHop}
 use Rattle.answers.specs.declared.StepAnswer.{StepAnswer}
 use Rattle.answers.specs.declared.StepAnswer.the-variants.{Action, Refused}
-use Rattle.answers.proofs.Asked.{both-yes, none-asked}
-use Rattle.answers.specs.Outcome.{Outcome, asks}
+use Rattle.answers.proofs.Asked.{both-yes, none-asked, told}
+use Rattle.answers.specs.Outcome.{Outcome, leaves}
 use Rattle.edition.specs.declared.Edition.{Edition}
 use Rattle.edition.specs.Edition.{peeringPath}
 use Rattle.place.specs.Place.{before, hop, info, nextHop, nextInfo}
@@ -82,7 +83,7 @@ linkTests path station t m =
 -- a question that is answered yes can be left out
 without-yes : (first : Questions) (why : StandardRoutingError) (more : Questions)
     → firstNo (first ++ ((true, why) ∷ more)) ≡ firstNo (first ++ more)
-unfolding firstNo
+unfolding asks
 without-yes [] why more = refl
 without-yes ((true, other) ∷ first) why more = without-yes first why more
 without-yes ((false, other) ∷ first) why more = refl
@@ -107,10 +108,10 @@ abbrev pub forwarded : Edition → List ℕ → ℕ → ℕ → List ℕ → Out
 forwarded edition path t m left = record { answer = Action (ForwardNextHop (wayOf path t m)); bytes = egressMove edition left }
 
 abbrev pub insideThen : Edition → List ℕ → Outcome StepAnswer → Outcome StepAnswer
-insideThen edition left more = asks Refused (firstNo (insideQuestions edition left)) left more
+insideThen edition left more = told (leaves Refused left) (firstNo (insideQuestions edition left)) more
 
 abbrev pub leavingThen : List ℕ → Station → ℕ → ℕ → List ℕ → Outcome StepAnswer → Outcome StepAnswer
-leavingThen path station t m left more = asks Refused (firstNo (leavingTests path station t m left)) left more
+leavingThen path station t m left more = told (leaves Refused left) (firstNo (leavingTests path station t m left)) more
 
 -- a path that stands at a hop without alerts is forwarded
 goes-out : {edition : Edition} {path mid : List ℕ} {t m value : ℕ} → Stands edition path mid t m value → Quiet (hopOf path t m)
@@ -163,7 +164,7 @@ module _ {edition : Edition} {path mid : List ℕ} {t m : ℕ} (g : Given path) 
 
   module _ (more : Onward edition path t m) where
     pub middle-step : stepAt edition station reading mid
-        ≡ asks Refused (firstNo (hopTests edition path station reading t m)) after
+        ≡ told (leaves Refused after) (firstNo (hopTests edition path station reading t m))
         (leavingThen path station t m after (forwarded edition path t m after))
     unfolding stepAt ingressMove
     middle-step =
@@ -182,7 +183,7 @@ module _ {edition : Edition} {path mid : List ℕ} {t m : ℕ} (g : Given path) 
 
   pub last-step : m + 1 ≡ countOf path t → startOf path t + m + 1 ≡ hops path
       → stepAt edition station reading mid
-      ≡ asks Refused (firstNo (hopTests edition path station reading t m)) after (record { answer = Action (Local ForwardLocal); bytes = after })
+      ≡ told (leaves Refused after) (firstNo (hopTests edition path station reading t m)) (record { answer = Action (Local ForwardLocal); bytes = after })
   unfolding stepAt ingressMove
   last-step e f =
       let p = placed s h (last e f) in
@@ -232,7 +233,7 @@ module _ {edition : Edition} {path mid : List ℕ} {t m : ℕ} (g : Given path) 
         (without-yes (hopTests edition path station reading t m) _ _ ∙ without-yes (hopTests edition path station reading t m) _ _))
 
     pub joint-step : stepAt edition station reading mid
-        ≡ asks Refused (firstNo (changeTests edition path station reading t m)) crossed
+        ≡ told (leaves Refused crossed) (firstNo (changeTests edition path station reading t m))
         (leavingThen path station (t + 1) 0 crossed (insideThen edition crossed (forwarded edition path (t + 1) 0 crossed)))
     unfolding stepAt ingressMove
     joint-step =

@@ -7,6 +7,8 @@ use mathlib.Core.Logic.{_⊎_, inr}
 use Prim.Native.Nat.{ℕ}
 use native.Mathlib.Omega.{arith}
 use lib.Dec.{eqb}
+use Rattle.questions.specs.Questions.{allYes, asks}
+use Rattle.answers.proofs.Asked.{told}
 use Rattle.octets.proofs.Bools.{first-of, second-of}
 use Rattle.answers.specs.Answer.{refusalNumber}
 use Rattle.answers.specs.Questions.{Questions, firstNo}
@@ -15,13 +17,12 @@ use Rattle.answers.specs.declared.Validation.{Validation}
 use Rattle.answers.specs.declared.Validation.the-variants.{Valid, Invalid}
 use Rattle.answers.specs.declared.StepAnswer.{StepAnswer}
 use Rattle.answers.specs.declared.StepAnswer.the-variants.{Action, Refused}
-use Rattle.answers.specs.Outcome.{Outcome, asks}
+use Rattle.answers.specs.Outcome.{Outcome, leaves}
 use Rattle.routing_laws.proofs.Numbers.{numbers}
 use Rattle.edition.specs.declared.Edition.{Edition}
 use Rattle.edition.specs.declared.Edition.the-variants.{First, Second}
 use Rattle.edition.specs.Edition.{peeringFits, peeringQuestions}
 use Rattle.journey.specs.Journey.{goesOn, delivers}
-use Rattle.journey.proofs.Yes.{yes}
 
 -- ---- numbers
 
@@ -48,7 +49,7 @@ refusedWith ns (Refused why) = oneOf (refusalNumber why) ns
 -- the refusal of a list of questions has one of their numbers
 refused-among : (qs : Questions) (why : StandardRoutingError) (ns : List ℕ) → within (numbers qs) ns ≡ true → firstNo qs ≡ Invalid why
     → oneOf (refusalNumber why) ns ≡ true
-unfolding firstNo
+unfolding asks
 refused-among [] why ns e q = let z : _≡_ {A = ℕ} 0 1 = cc in absurd (omega arith)
 refused-among ((true, other) ∷ qs) why ns e q = refused-among qs why ns (second-of (oneOf (refusalNumber other) ns) _ e) q
 refused-among ((false, other) ∷ qs) why ns e q =
@@ -57,9 +58,9 @@ refused-among ((false, other) ∷ qs) why ns e q =
 
 -- a no among the first questions ends with one of their numbers
 pub first-refused : (edition : Edition) (qs rs : Questions) (left : List ℕ) (more : Outcome StepAnswer)
-    → within (numbers qs) (stopNumbers edition) ≡ true → yes qs ≡ false
-    → refusedWith (stopNumbers edition) (asks Refused (firstNo (qs ++ rs)) left more .answer) ≡ true
-unfolding firstNo yes
+    → within (numbers qs) (stopNumbers edition) ≡ true → allYes qs ≡ false
+    → refusedWith (stopNumbers edition) (told (leaves Refused left) (firstNo (qs ++ rs)) more .answer) ≡ true
+unfolding asks allYes
 first-refused edition [] rs left more e q = absurd (false≢true (sym q))
 first-refused edition ((true, why) ∷ qs) rs left more e q =
     first-refused edition qs rs left more (second-of (oneOf (refusalNumber why) (stopNumbers edition)) _ e) q
@@ -67,8 +68,8 @@ first-refused edition ((false, why) ∷ qs) rs left more e q = first-of (oneOf (
 
 -- so does 28
 pub peering-refused : (edition : Edition) (path : List ℕ) (more : Outcome StepAnswer) → peeringFits edition path ≡ false
-    → refusedWith (stopNumbers edition) (asks Refused (firstNo (peeringQuestions edition path)) path more .answer) ≡ true
-unfolding firstNo
+    → refusedWith (stopNumbers edition) (told (leaves Refused path) (firstNo (peeringQuestions edition path)) more .answer) ≡ true
+unfolding asks
 peering-refused First path more e = absurd (false≢true (sym e))
 peering-refused Second path more e = rw e
 
@@ -78,10 +79,10 @@ Or edition holds answer = (holds answer ≡ true) ⊎ (refusedWith (stopNumbers 
 
 pub or-through : (edition : Edition) (holds : StepAnswer → Bool) (qs : Questions) (left : List ℕ) (more : Outcome StepAnswer)
     → within (numbers qs) (stopNumbers edition) ≡ true → Or edition holds (more .answer)
-    → Or edition holds (asks Refused (firstNo qs) left more .answer)
+    → Or edition holds (told (leaves Refused left) (firstNo qs) more .answer)
 or-through edition holds qs left more e h = go (firstNo qs) refl
   where
-    go : (v : Validation) → firstNo qs ≡ v → Or edition holds (asks Refused v left more .answer)
+    go : (v : Validation) → firstNo qs ≡ v → Or edition holds (told (leaves Refused left) v more .answer)
     go Valid q = h
     go (Invalid why) q = inr (refused-among qs why (stopNumbers edition) e q)
 

@@ -8,6 +8,7 @@ use mathlib.Core.List.{List, [], _∷_}
 use mathlib.Core.Logic.{_↔_}
 use lib.Dec.{eqb}
 use lib.ListN.{length, getD}
+use Rattle.questions.specs.Questions.{allYes}
 use Rattle.answers.specs.declared.LocalAsRoutingAction.the-variants.{IngressSCMPHandleRequest, EgressSCMPHandleRequest, ForwardLocal}
 use Rattle.answers.specs.declared.AsRoutingAction.the-variants.{Local, ForwardNextHop}
 use Rattle.answers.specs.declared.StepAnswer.{StepAnswer}
@@ -20,7 +21,7 @@ use Rattle.records.specs.Layout.{Layout}
 use Rattle.itinerary.specs.Itinerary.{Station, stations}
 use Rattle.journey.specs.declared.answer.Verdict.{Verdict}
 use Rattle.journey.specs.declared.answer.Verdict.the-variants.{Passed}
-use Rattle.journey.specs.Verdict.{questions, letThrough}
+use Rattle.journey.specs.Verdict.{questions}
 
 -- what an AS does: at its station and its clock's reading, on the bytes that it gets
 abbrev pub StationStep : Type 0
@@ -91,5 +92,5 @@ Travels at stations earliest latest path =
 -- The check's definition, `journeyCheck`, meets it: `demand-3` in proofs/Demand3.antt. So does the check's code, by its contract.
 unfoldable pub Demand3 : Edition → Layout → List ℕ → ℕ → ℕ → List ℕ → Verdict → Type 0
 Demand3 edition layout itinerary earliest latest path verdict =
-    letThrough (questions edition layout itinerary earliest latest path) ≡ true
+    allYes (questions edition layout itinerary earliest latest path) ≡ true
     → (verdict ≡ Passed) ↔ Travels (stepAt edition) (stations layout itinerary) earliest latest path

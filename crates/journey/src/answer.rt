@@ -1,12 +1,12 @@
 // What the journey check answers.
+use standard_path::view;
+use standard_path::view::HeaderError;
 ghost use mathlib.Core.Path.{_≡_};
 ghost use Rattle.journey.specs.Verdict.{journeyNumber};
 
 // Why a call is refused.
 pub enum JourneyError {
-    MetaTooShort,
-    DataTooShort,
-    TooManyHops,
+    HeaderFailed(HeaderError),
     // The itinerary, a table of it, the count of its stations, their arrivals, or the order of the two clock readings.
     UnfitItinerary,
     NotAtStart,
@@ -24,9 +24,7 @@ pub fn journey_number(error: JourneyError) -> u8
     ensures { λ r. ⌜ r ≡ journeyNumber error ⌝ }
 {
     match error {
-        JourneyError::MetaTooShort => 2,
-        JourneyError::DataTooShort => 3,
-        JourneyError::TooManyHops => 4,
+        JourneyError::HeaderFailed(error) => view::header_number(error),
         JourneyError::UnfitItinerary => 23,
         JourneyError::NotAtStart => 24,
         JourneyError::AlertSet => 25,
