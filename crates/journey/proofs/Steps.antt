@@ -219,7 +219,8 @@ module _ {edition : Edition} {path mid : List ℕ} {t m : ℕ} (g : Given path) 
         let few : currHf mid + 1 < 64 = omega (arith, s .hf, g .few) in
         let last : m ≡ countOf path t - 1 = omega arith in
         let done : checkedSegId edition path t m ≡ deliveredSegId edition path t = ap (λ (n : ℕ). checkedSegId edition path t n) last in
-        subst (λ (u : ℕ). Stands edition path (setCurrInf (setCurrHf after (currHf mid + 1)) u) (t + 1) 0 (checkedSegId edition path (t + 1) 0))
+        subst
+        (λ (u : ℕ). Stands edition path (setCurrInf (setCurrHf after (currHf mid + 1)) u) (t + 1) 0 (checkedSegId edition path (t + 1) 0))
         (ap (λ (u : ℕ). u + 1) (sym (s .inf)))
         (segments-on stands-after (g .room) inside (currHf mid + 1) (t + 1) next-index few refl (behind .1) done)
 
