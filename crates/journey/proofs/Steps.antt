@@ -123,8 +123,8 @@ abbrev pub changeTests : Edition → List ℕ → Station → ℕ → ℕ → �
 changeTests edition path station reading t m =
     hopTests edition path station reading t m ++ (linkTests path station t m ++ hopTests edition path station reading (t + 1) 0)
 
-module _ {edition : Edition} {path mid : List ℕ} {t m : ℕ} (g : Given path) (s : Stands edition path mid t m (arrivingSegId edition path t m))
-    (h : Hop edition path t m)
+module _ {edition : Edition} {path mid : List ℕ} {t m : ℕ} (g : Given path)
+    (s : Stands edition path mid t m (arrivingSegId edition path t m)) (h : Hop edition path t m)
     {station : Station} (r : Reached station (startOf path t + m)) (reading : ℕ) where
   pub inside : t < infos path
   inside = in-header path t (h .third) (h .long)
