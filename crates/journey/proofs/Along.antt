@@ -130,7 +130,8 @@ module _ {edition : Edition} {at : StationStep} (laws : Laws edition at) {path :
       well-next station next stations reading readings k (well-along (next ∷ stations) readings (suc k)) t m mid s h all e
 
   -- and the other way
-  some-station : {t m : ℕ} {stations : List Station} {readings : List ℕ} → Along edition path t m stations readings → someLeft stations ≡ true
+  some-station : {t m : ℕ} {stations : List Station} {readings : List ℕ} → Along edition path t m stations readings
+      → someLeft stations ≡ true
   some-station (arrive c l e) = refl
   some-station (onward c n e rest) = refl
 
@@ -148,5 +149,5 @@ module _ {edition : Edition} {at : StationStep} (laws : Laws edition at) {path :
       well-more at k (k + length (station ∷ next ∷ stations)) station next stations reading readings mid (omega arith)
       ∙ both on
       (rw count
-      (along-well (next ∷ stations) readings (suc k) (segmentBehind c) (placeBehind c) _ (said .left on) (hop-behind h c n station reading e)
-      (reached-later (next ∷ stations) _ (later-behind h c) (all .1)) rest))
+      (along-well (next ∷ stations) readings (suc k) (segmentBehind c) (placeBehind c) _ (said .left on)
+      (hop-behind h c n station reading e) (reached-later (next ∷ stations) _ (later-behind h c) (all .1)) rest))

@@ -60,14 +60,14 @@ unfolding delivers
 refused-not-delivered why = refl
 
 -- what a test decides: where it says no, the answer is a refusal
-unless : (edition : Edition) (holds : StepAnswer → Bool) (answer : StepAnswer) {test : Bool} → holds answer ≡ test → Or edition holds answer
-    → test ≡ false → refusedWith (stopNumbers edition) answer ≡ true
+unless : (edition : Edition) (holds : StepAnswer → Bool) (answer : StepAnswer) {test : Bool} → holds answer ≡ test
+    → Or edition holds answer → test ≡ false → refusedWith (stopNumbers edition) answer ≡ true
 unless edition holds answer e either fails = ⊎-elim (λ held. absurd (false≢true (sym fails ∙ sym e ∙ held))) (λ refused. refused) either
 
 -- ---- the answer, and where the path stands after it
 
-module _ {edition : Edition} {path mid : List ℕ} {t m : ℕ} (g : Given path) (s : Stands edition path mid t m (arrivingSegId edition path t m))
-    (h : Hop edition path t m)
+module _ {edition : Edition} {path mid : List ℕ} {t m : ℕ} (g : Given path)
+    (s : Stands edition path mid t m (arrivingSegId edition path t m)) (h : Hop edition path t m)
     {station : Station} (r : Reached station (startOf path t + m)) (reading : ℕ) where
   -- where the next hop lies in the segment, or over the peering link
   module _ (more : Onward edition path t m) where
@@ -102,7 +102,8 @@ module _ {edition : Edition} {path mid : List ℕ} {t m : ℕ} (g : Given path) 
         ∙ rw (and-false (wayGood path station t m), and-false (hopGood edition path station reading t m))
 
     onward-stands : (o : Onward edition path t m)
-        → Stands edition path (egressMove edition entered) (nextSegment o) (nextPlace o) (arrivingSegId edition path (nextSegment o) (nextPlace o))
+        → Stands edition path (egressMove edition entered) (nextSegment o) (nextPlace o)
+        (arrivingSegId edition path (nextSegment o) (nextPlace o))
     onward-stands (inner e) =
         leaves (g .room) (inside g s h r reading) (stands-after g s h r reading) (quiet-here g s h r reading)
         (inner-stays edition path t m (h .third) e) (omega (arith, before-end path t (h .third), g .few))
@@ -110,7 +111,8 @@ module _ {edition : Edition} {path mid : List ℕ} {t m : ℕ} (g : Given path) 
         let n = next-in-header path t (h .third) (h .long) (over-before edition path t p z) in
         let at = start-next path t (n .0) in
         leaves-over (g .room) (inside g s h r reading) (stands-after g s h r reading) (quiet-here g s h r reading)
-        (over-crosses edition path t m p z e) (over-peer edition path t m p z e) e (omega (arith, over-before edition path t p z, g .few)) (omega arith) (n .1)
+        (over-crosses edition path t m p z e) (over-peer edition path t m p z e) e
+        (omega (arith, over-before edition path t p z, g .few)) (omega arith) (n .1)
 
     middle-left : hopGood edition path station reading t m ≡ true → wayGood path station t m ≡ true
         → Stands edition path (stepAt edition station reading mid .bytes) (nextSegment more) (nextPlace more)
@@ -126,8 +128,7 @@ module _ {edition : Edition} {path mid : List ℕ} {t m : ℕ} (g : Given path) 
     middle-or =
         rw (middle-step g s h r reading more)
         (or-through edition goesOn (hopTests edition path station reading t m) _ _ refl
-        (or-through edition goesOn (leavingTests path station t m (enteredAt edition mid station)) _
-        (forwarded edition path t m (enteredAt edition mid station)) refl (inl refl)))
+        (or-through edition goesOn (leavingTests path station t m entered) _ onward refl (inl refl)))
 
     middle-answered : Answered edition path t m (middle more) station reading (stepAt edition station reading mid)
     middle-answered = record {
@@ -142,7 +143,8 @@ module _ {edition : Edition} {path mid : List ℕ} {t m : ℕ} (g : Given path) 
   -- the last hop of the path
   module _ (e : m + 1 ≡ countOf path t) (f : startOf path t + m + 1 ≡ hops path) where
     last-through : (holds : StepAnswer → Bool) (none : (why : StandardRoutingError) → holds (Refused why) ≡ false)
-        → holds (stepAt edition station reading mid .answer) ≡ (hopGood edition path station reading t m && holds (Action (Local ForwardLocal)))
+        → holds (stepAt edition station reading mid .answer)
+        ≡ (hopGood edition path station reading t m && holds (Action (Local ForwardLocal)))
     last-through holds none =
         ap (λ (o : Outcome StepAnswer). holds (o .answer)) (last-step g s h r reading e f)
         ∙ through holds none (hopTests edition path station reading t m) _ _
@@ -219,7 +221,8 @@ module _ {edition : Edition} {path mid : List ℕ} {t m : ℕ} (g : Given path) 
     joint-left c =
         let u : stepAt edition station reading mid ≡ acrossOn =
         joint-step g s h r reading plain e f
-        ∙ passed-through (changeTests edition path station reading t m) crossed leavingAcross (checks-yes ∙ both (c .here) (both (c .link) (c .there)))
+        ∙ passed-through (changeTests edition path station reading t m) crossed leavingAcross
+        (checks-yes ∙ both (c .here) (both (c .link) (c .there)))
         ∙ passed-through (leavingTests path station (t + 1) 0 crossed) crossed (insideThen edition crossed acrossOn)
         (leaving-yes path station (t + 1) 0 crossed ∙ c .way)
         ∙ passed-through (insideQuestions edition crossed) crossed acrossOn (inside-yes ∙ le-leb _ _ (c .two)) in
@@ -233,8 +236,7 @@ module _ {edition : Edition} {path mid : List ℕ} {t m : ℕ} (g : Given path) 
     unfolding goesOn
     joint-or =
         rw (joint-step g s h r reading plain e f)
-        (or-through edition goesOn (changeTests edition path station reading t m) crossed
-        (leavingThen path station (t + 1) 0 crossed (insideThen edition crossed acrossOn)) refl
+        (or-through edition goesOn (changeTests edition path station reading t m) crossed leavingAcross refl
         (or-through edition goesOn (leavingTests path station (t + 1) 0 crossed) crossed (insideThen edition crossed acrossOn) refl
         (or-through edition goesOn (insideQuestions edition crossed) crossed acrossOn refl (inl refl))))
 
@@ -254,8 +256,8 @@ module _ {edition : Edition} {path mid : List ℕ} {t m : ℕ} (g : Given path) 
 -- ---- the first station
 
 -- a path that is not in order at its first hop ends there: with 5, 6 or 7, or else with 28
-module _ (edition : Edition) (path : List ℕ) (station : Station) (reading : ℕ) (g : Given path) (hf : currHf path ≡ 0) (inf : currInf path ≡ 0)
-    (sound : tableSound (station .ids) (station .states) ≡ true) where
+module _ (edition : Edition) (path : List ℕ) (station : Station) (reading : ℕ) (g : Given path) (hf : currHf path ≡ 0)
+    (inf : currInf path ≡ 0) (sound : tableSound (station .ids) (station .states) ≡ true) where
   abbrev Stopped : Type 0
   Stopped = refusedWith (stopNumbers edition) (stepAt edition station reading path .answer) ≡ true
 
@@ -271,7 +273,8 @@ module _ (edition : Edition) (path : List ℕ) (station : Station) (reading : �
   peering-stops begins wrong =
       rw (step-asks edition (station .ids) (station .states) (keyMac (station .key)) (station .arrival) reading false path)
       (rw (before-asked (station .ids) (station .states) g (kept-self path) sound)
-      (rw (goes-on (firstThree edition path) (eights edition path ++ peeringQuestions edition path) (yes-valid (firstThree edition path) begins)
+      (rw (goes-on (firstThree edition path) (eights edition path ++ peeringQuestions edition path)
+      (yes-valid (firstThree edition path) begins)
       ∙ goes-on (eights edition path) (peeringQuestions edition path) (eights-yes edition path hf inf (begun edition path hf inf begins)))
       (peering-refused edition path _ wrong)))
 

@@ -132,8 +132,8 @@ module _ {edition : Edition} {at : StationStep} (laws : Laws edition at) {path :
       → arrives at stations (replicate (length stations) latest) path ≡ true → passes edition stations earliest latest path ≡ true
   two-runs early late =
       facts-check edition stations earliest latest path (shape-of _ early)
-      (valid-fits edition path (arrives-first stations _ (a .sound) (arrives-well _ early) .fits)) (a .counted) (replicate (length stations) earliest)
-      (replicate (length stations) latest)
+      (valid-fits edition path (arrives-first stations _ (a .sound) (arrives-well _ early) .fits)) (a .counted)
+      (replicate (length stations) earliest) (replicate (length stations) latest)
       (λ k l. rw (getD-replicate (length stations) k earliest 0 l) (omega arith))
       (λ k l. rw (getD-replicate (length stations) k latest 0 l) (omega arith))
       (facts _ early) (facts _ late)

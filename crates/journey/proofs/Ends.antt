@@ -35,7 +35,8 @@ stopped-unwell edition count (endedAt k answer left) e =
     rw (refused-undelivered (stopNumbers edition) answer e) (and-false (eqb (suc k) count))
 
 -- a refusal ends the journey
-pub stops-here : (edition : Edition) (at : StationStep) (k : ℕ) (station : Station) (stations : List Station) (reading : ℕ) (readings mid : List ℕ)
+pub stops-here : (edition : Edition) (at : StationStep) (k : ℕ) (station : Station) (stations : List Station) (reading : ℕ)
+    (readings mid : List ℕ)
     → refusedWith (stopNumbers edition) (at station reading mid .answer) ≡ true
     → stopped edition (journey at k (station ∷ stations) (reading ∷ readings) mid) ≡ true
 unfolding journey
@@ -76,8 +77,8 @@ module _ {edition : Edition} {at : StationStep} (laws : Laws edition at) {path :
       go true l true e = inl (well-last at k station reading readings mid ∙ said .delivered ∙ rw (l, e))
       go false l true e =
           let next = hop-behind h c l station reading e in
-          absurd
-          (omega (arith, enough .0, index-behind h c, hops-enough edition path (segmentBehind c) (placeBehind c) (next .third) (next .within)))
+          let room = hops-enough edition path (segmentBehind c) (placeBehind c) (next .third) (next .within) in
+          absurd (omega (arith, enough .0, index-behind h c))
 
   ends-next : (station next : Station) (stations : List Station) (reading : ℕ) (readings : List ℕ) (k : ℕ)
       → EndsFrom (next ∷ stations) readings (suc k) → EndsFrom (station ∷ next ∷ stations) (reading ∷ readings) k

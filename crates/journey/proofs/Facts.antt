@@ -139,8 +139,8 @@ module _ {edition : Edition} {path : List ℕ} (shape : Shape edition path) wher
       let tests = crossing edition path station reading t m e in
       facts-at p q (record { good = tests .there; way = λ o. tests .way; link = λ c j i. absurd (omega arith) })
 
-  pub along-facts : (t m : ℕ) (stations : List Station) (readings : List ℕ) → Along edition path t m stations readings → Hop edition path t m
-      → AllFacts edition path t m stations readings
+  pub along-facts : (t m : ℕ) (stations : List Station) (readings : List ℕ) → Along edition path t m stations readings
+      → Hop edition path t m → AllFacts edition path t m stations readings
   along-facts t m (station ∷ []) (reading ∷ readings) (arrive k l e) h zero t′ m′ some i′ w′ q =
       go (both-at t m t′ m′ h i′ w′ q)
     where
@@ -212,7 +212,8 @@ module _ {edition : Edition} {path : List ℕ} (shape : Shape edition path) wher
           let those = shared-plain edition path plain (t + 1) in
           let then = facts 0 (t + 1) 0 (omega arith) (n .1) (omega arith) (omega arith) in
           further (joint plain a b) refl
-          (both (both (here .good) (both (here .link plain a (n .1)) (then .good))) (both (then .way (inner (omega arith))) (le-leb _ _ long)))
+          (both (both (here .good) (both (here .link plain a (n .1)) (then .good)))
+          (both (then .way (inner (omega arith))) (le-leb _ _ long)))
 
   pub facts-along : (stations : List Station) (readings : List ℕ) → Onwards stations readings
   facts-along [] readings t m h left facts =

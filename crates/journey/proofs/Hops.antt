@@ -83,7 +83,8 @@ module _ (path : List ℕ) where
 
 -- ---- the place, in the words of the questions
 
-module _ {edition : Edition} {path mid : List ℕ} {t m value : ℕ} (s : Stands edition path mid t m value) (t3 : t < 3) (within : m < countOf path t) where
+module _ {edition : Edition} {path mid : List ℕ} {t m value : ℕ} (s : Stands edition path mid t m value) (t3 : t < 3)
+    (within : m < countOf path t) where
   at-segment : segment mid ≡ t
   at-segment = rw (s .kept .seg0, s .kept .seg1, s .hf) (segment-of path t m t3 within)
 
@@ -320,8 +321,8 @@ hop-across {edition} {path} {t} {m} h e f two =
     }
 
 -- at the first hop of a segment behind a joint, whether it has a second
-module _ {edition : Edition} {path mid : List ℕ} {t value : ℕ} (s : Stands edition path mid (t + 1) 0 value) (plain : peeringPath edition path ≡ false)
-    (t2 : t < 2) (there : startOf path (t + 1) < hops path) where
+module _ {edition : Edition} {path mid : List ℕ} {t value : ℕ} (s : Stands edition path mid (t + 1) 0 value)
+    (plain : peeringPath edition path ≡ false) (t2 : t < 2) (there : startOf path (t + 1) < hops path) where
   -- an empty segment is passed over
   empty-next : countOf path (t + 1) ≡ 0 → eqb (segment mid) (currInf mid) ≡ false
   unfolding hops

@@ -71,7 +71,8 @@ pub record Answered (edition : Edition) (path : List ℕ) (t m : ℕ) (k : Kind 
   pub delivered : delivers (outcome .answer) ≡ (isLast k && good k station reading)
   pub refused : good k station reading ≡ false → refusedWith (stopNumbers edition) (outcome .answer) ≡ true
   pub left : goesOn (outcome .answer) ≡ true
-      → Stands edition path (outcome .bytes) (segmentBehind k) (placeBehind k) (arrivingSegId edition path (segmentBehind k) (placeBehind k))
+      → Stands edition path (outcome .bytes) (segmentBehind k) (placeBehind k)
+      (arrivingSegId edition path (segmentBehind k) (placeBehind k))
 
 pub record Laws (edition : Edition) (at : StationStep) : Type 0 where
   -- the path as given: it can stand at its first hop, or it is refused there
@@ -82,7 +83,7 @@ pub record Laws (edition : Edition) (at : StationStep) : Type 0 where
       → Hop edition path t m → {station : Station} → Reached station (startOf path t + m) → (reading : ℕ) (k : Kind edition path t m)
       → Answered edition path t m k station reading (at station reading mid)
 
--- ---- the tests one by one
+-- ---- the tests of a segment change one by one
 
 module _ (edition : Edition) (path : List ℕ) (station : Station) (reading t m : ℕ) where
   pub record Crossing : Type 0 where
@@ -92,7 +93,8 @@ module _ (edition : Edition) (path : List ℕ) (station : Station) (reading t m 
     pub way : wayGood path station (t + 1) 0 ≡ true
     pub two : 2 ≤ countOf path (t + 1)
 
-  pub crossing : (changeGood edition path station reading t m && (wayGood path station (t + 1) 0 && leb 2 (countOf path (t + 1)))) ≡ true → Crossing
+  pub crossing : (changeGood edition path station reading t m && (wayGood path station (t + 1) 0 && leb 2 (countOf path (t + 1)))) ≡ true
+      → Crossing
   crossing e =
       let all = each-of (changeGood edition path station reading t m) _ e in
       let checks = each-of (hopGood edition path station reading t m) _ (all .0) in

@@ -152,7 +152,8 @@ module _ (edition : Edition) (stations : List Station) (earliest latest : ℕ) (
     -- a joint, with its station's number
     record Joining (station : Station) (t m : ℕ) : Type 0 where
       listed : isListed (stateOf (station .ids) (station .states) (travelIngress (consDir (infoField path t)) (hopOf path t m))) ≡ true
-      leads : isListed (stateOf (station .ids) (station .states) (travelEgress (consDir (infoField path (t + 1))) (hopOf path (t + 1) 0))) ≡ true
+      leads : isListed (stateOf (station .ids) (station .states) (travelEgress (consDir (infoField path (t + 1))) (hopOf path (t + 1) 0)))
+          ≡ true
       allowed : pairAllowed
           (linkOf (stateOf (station .ids) (station .states) (travelIngress (consDir (infoField path t)) (hopOf path t m))))
           (linkOf (stateOf (station .ids) (station .states) (travelEgress (consDir (infoField path (t + 1))) (hopOf path (t + 1) 0))))
@@ -328,7 +329,8 @@ module _ (edition : Edition) (stations : List Station) (earliest latest : ℕ) (
         let from-15 = second-of (isListed into) _ linked in
         choose-other (peeringPath edition path) _ _ plain
         (both
-        (both (both (first-of (isListed into) _ linked) (first-of (isListed out) _ from-15)) (first-of _ true (second-of (isListed out) _ from-15)))
+        (both (both (first-of (isListed into) _ linked) (first-of (isListed out) _ from-15))
+        (first-of _ true (second-of (isListed out) _ from-15)))
         (from-outside (t + 1) 0 h (omega arith) (omega arith)))
 
     linked-good : peeringPath edition path ≡ true → (t : ℕ) → t + 1 < infos path → jointPasses edition stations path t ≡ true

@@ -26,7 +26,7 @@ use Rattle.validator.specs.Check.{keyMac}
 use Rattle.routing.proofs.Inside.{insideQuestions}
 use Rattle.routing_laws.proofs.Whole.{step-asks, checks, leavingChecks}
 use Rattle.itinerary.specs.Itinerary.{Station}
-use Rattle.journey.specs.Journey.{stepAt, endedAt, goesOn, someLeft, orEnds, journey}
+use Rattle.journey.specs.Journey.{StationStep, stepAt, endedAt, goesOn, someLeft, orEnds, journey}
 
 -- an answer that egress gave, with its move done
 abbrev pub leftByEgress : StepAnswer → Bool
@@ -104,72 +104,78 @@ on-leaves (Action (ForwardNextHop interface)) e = refl
 on-leaves (Action (Local action)) e = let z : _≡_ {A = ℕ} 0 1 = cc in absurd (omega arith)
 on-leaves (Refused why) e = let z : _≡_ {A = ℕ} 0 1 = cc in absurd (omega arith)
 
--- it goes on with the same bytes whatever the reading
-pub on-alike : (edition : Edition) (station : Station) (first second : ℕ) (path : List ℕ)
-    → goesOn (stepAt edition station first path .answer) ≡ true
-    → goesOn (stepAt edition station second path .answer) ≡ true
-    → stepAt edition station first path .bytes ≡ stepAt edition station second path .bytes
-on-alike edition station first second path a b =
-    bytes-by-answer edition station first path
-    ∙ rw (on-leaves (stepAt edition station first path .answer) a)
-    (sym (bytes-by-answer edition station second path ∙ rw (on-leaves (stepAt edition station second path .answer) b)))
+-- of a step: one answer leaves the same bytes whatever the reading, and so do two that go on
+pub record Told (at : StationStep) : Type 0 where
+  pub alike : (station : Station) (first second : ℕ) (path : List ℕ) → at station first path .answer ≡ at station second path .answer
+      → at station first path .bytes ≡ at station second path .bytes
+  pub going : (station : Station) (first second : ℕ) (path : List ℕ) → goesOn (at station first path .answer) ≡ true
+      → goesOn (at station second path .answer) ≡ true → at station first path .bytes ≡ at station second path .bytes
+
+pub told : (edition : Edition) → Told (stepAt edition)
+told edition = record {
+  alike = λ station first second path e.
+      bytes-by-answer edition station first path
+      ∙ ap (leftBytes edition station path) e ∙ sym (bytes-by-answer edition station second path);
+  going = λ station first second path a b.
+      bytes-by-answer edition station first path
+      ∙ rw (on-leaves (stepAt edition station first path .answer) a)
+      (sym (bytes-by-answer edition station second path ∙ rw (on-leaves (stepAt edition station second path .answer) b)));
+}
 
 -- a journey ends at its first station or behind it
-ends-behind : (edition : Edition) (stations : List Station) (readings : List ℕ) (k : ℕ) (path : List ℕ) {j : ℕ} {answer : StepAnswer}
-    {left : List ℕ}
-    → journey (stepAt edition) k stations readings path ≡ endedAt j answer left → k ≤ j
+ends-behind : (at : StationStep) (stations : List Station) (readings : List ℕ) (k : ℕ) (path : List ℕ) {j : ℕ} {answer : StepAnswer}
+    {left : List ℕ} → journey at k stations readings path ≡ endedAt j answer left → k ≤ j
 unfolding journey
-ends-behind edition [] readings k path e = let z : _≡_ {A = ℕ} 0 1 = cc in absurd (omega arith)
-ends-behind edition (station ∷ stations) [] k path e = let z : _≡_ {A = ℕ} 0 1 = cc in absurd (omega arith)
-ends-behind edition (station ∷ stations) (reading ∷ readings) k path {j} {answer} {left} e =
-    go (goesOn (stepAt edition station reading path .answer) && someLeft stations)
-    (λ q. ends-behind edition stations readings (suc k) (stepAt edition station reading path .bytes) q) e
+ends-behind at [] readings k path e = let z : _≡_ {A = ℕ} 0 1 = cc in absurd (omega arith)
+ends-behind at (station ∷ stations) [] k path e = let z : _≡_ {A = ℕ} 0 1 = cc in absurd (omega arith)
+ends-behind at (station ∷ stations) (reading ∷ readings) k path {j} {answer} {left} e =
+    go (goesOn (at station reading path .answer) && someLeft stations)
+    (λ q. ends-behind at stations readings (suc k) (at station reading path .bytes) q) e
   where
     go : (on : Bool)
-        → (journey (stepAt edition) (suc k) stations readings (stepAt edition station reading path .bytes) ≡ endedAt j answer left → suc k ≤ j)
-        → orEnds on k (stepAt edition station reading path)
-        (journey (stepAt edition) (suc k) stations readings (stepAt edition station reading path .bytes))
+        → (journey at (suc k) stations readings (at station reading path .bytes) ≡ endedAt j answer left → suc k ≤ j)
+        → orEnds on k (at station reading path) (journey at (suc k) stations readings (at station reading path .bytes))
         ≡ endedAt j answer left → k ≤ j
     go true rest q = let l = rest q in omega arith
     go false rest q = let same : k ≡ j = cc in omega arith
 
+told-bytes : {at : StationStep} → Told at → (stations : List Station) (first second : List ℕ) (k : ℕ) (path : List ℕ) {j : ℕ}
+    {answer : StepAnswer} {left1 left2 : List ℕ} → journey at k stations first path ≡ endedAt j answer left1
+    → journey at k stations second path ≡ endedAt j answer left2 → left1 ≡ left2
+unfolding journey
+told-bytes l [] first second k path e f = let z : _≡_ {A = ℕ} 0 1 = cc in absurd (omega arith)
+told-bytes l (station ∷ stations) [] second k path e f = let z : _≡_ {A = ℕ} 0 1 = cc in absurd (omega arith)
+told-bytes l (station ∷ stations) (reading ∷ first) [] k path e f = let z : _≡_ {A = ℕ} 0 1 = cc in absurd (omega arith)
+told-bytes {at} l (station ∷ stations) (reading1 ∷ first) (reading2 ∷ second) k path {j} {answer} {left1} {left2} e f =
+    go (goesOn (at station reading1 path .answer) && someLeft stations) refl
+    (goesOn (at station reading2 path .answer) && someLeft stations) refl
+    (λ q r. told-bytes l stations first second (suc k) (at station reading1 path .bytes) q r) e f
+  where
+    go : (on1 : Bool) → (goesOn (at station reading1 path .answer) && someLeft stations) ≡ on1
+        → (on2 : Bool) → (goesOn (at station reading2 path .answer) && someLeft stations) ≡ on2
+        → (journey at (suc k) stations first (at station reading1 path .bytes) ≡ endedAt j answer left1
+        → journey at (suc k) stations second (at station reading1 path .bytes) ≡ endedAt j answer left2 → left1 ≡ left2)
+        → orEnds on1 k (at station reading1 path) (journey at (suc k) stations first (at station reading1 path .bytes))
+        ≡ endedAt j answer left1
+        → orEnds on2 k (at station reading2 path) (journey at (suc k) stations second (at station reading2 path .bytes))
+        ≡ endedAt j answer left2 → left1 ≡ left2
+    go true a true b rest e f =
+        let same = l .going station reading1 reading2 path (first-of _ (someLeft stations) a) (first-of _ (someLeft stations) b) in
+        rest e (rw same f)
+    go true a false b rest e f =
+        let behind = ends-behind at stations first (suc k) (at station reading1 path .bytes) e in
+        let same : k ≡ j = cc in absurd (omega arith)
+    go false a true b rest e f =
+        let behind = ends-behind at stations second (suc k) (at station reading2 path .bytes) f in
+        let same : k ≡ j = cc in absurd (omega arith)
+    go false a false b rest e f =
+        let answers : at station reading1 path .answer ≡ at station reading2 path .answer = cc in
+        let left-1 : at station reading1 path .bytes ≡ left1 = cc in
+        let left-2 : at station reading2 path .bytes ≡ left2 = cc in
+        sym left-1 ∙ l .alike station reading1 reading2 path answers ∙ left-2
+
 -- two journeys over the same stations, from the same bytes, that end at one station with one answer leave the same bytes
 pub same-bytes : (edition : Edition) (stations : List Station) (first second : List ℕ) (k : ℕ) (path : List ℕ) {j : ℕ} {answer : StepAnswer}
     {left1 left2 : List ℕ} → journey (stepAt edition) k stations first path ≡ endedAt j answer left1
-    → journey (stepAt edition) k stations second path ≡ endedAt j answer left2
-    → left1 ≡ left2
-unfolding journey
-same-bytes edition [] first second k path e f = let z : _≡_ {A = ℕ} 0 1 = cc in absurd (omega arith)
-same-bytes edition (station ∷ stations) [] second k path e f = let z : _≡_ {A = ℕ} 0 1 = cc in absurd (omega arith)
-same-bytes edition (station ∷ stations) (reading ∷ first) [] k path e f = let z : _≡_ {A = ℕ} 0 1 = cc in absurd (omega arith)
-same-bytes edition (station ∷ stations) (reading1 ∷ first) (reading2 ∷ second) k path {j} {answer} {left1} {left2} e f =
-    go (goesOn (stepAt edition station reading1 path .answer) && someLeft stations) refl
-    (goesOn (stepAt edition station reading2 path .answer) && someLeft stations) refl
-    (λ q r. same-bytes edition stations first second (suc k) (stepAt edition station reading1 path .bytes) q r) e f
-  where
-    go : (on1 : Bool) → (goesOn (stepAt edition station reading1 path .answer) && someLeft stations) ≡ on1
-        → (on2 : Bool) → (goesOn (stepAt edition station reading2 path .answer) && someLeft stations) ≡ on2
-        → (journey (stepAt edition) (suc k) stations first (stepAt edition station reading1 path .bytes) ≡ endedAt j answer left1
-        → journey (stepAt edition) (suc k) stations second (stepAt edition station reading1 path .bytes) ≡ endedAt j answer left2 → left1 ≡ left2)
-        → orEnds on1 k (stepAt edition station reading1 path)
-        (journey (stepAt edition) (suc k) stations first (stepAt edition station reading1 path .bytes))
-        ≡ endedAt j answer left1
-        → orEnds on2 k (stepAt edition station reading2 path)
-        (journey (stepAt edition) (suc k) stations second (stepAt edition station reading2 path .bytes))
-        ≡ endedAt j answer left2 → left1 ≡ left2
-    go true a true b rest e f =
-        let alike = on-alike edition station reading1 reading2 path (first-of _ (someLeft stations) a) (first-of _ (someLeft stations) b) in
-        rest e (rw alike f)
-    go true a false b rest e f =
-        let l = ends-behind edition stations first (suc k) (stepAt edition station reading1 path .bytes) e in
-        let same : k ≡ j = cc in absurd (omega arith)
-    go false a true b rest e f =
-        let l = ends-behind edition stations second (suc k) (stepAt edition station reading2 path .bytes) f in
-        let same : k ≡ j = cc in absurd (omega arith)
-    go false a false b rest e f =
-        let answers : stepAt edition station reading1 path .answer ≡ stepAt edition station reading2 path .answer = cc in
-        let left-1 : stepAt edition station reading1 path .bytes ≡ left1 = cc in
-        let left-2 : stepAt edition station reading2 path .bytes ≡ left2 = cc in
-        sym left-1 ∙ bytes-by-answer edition station reading1 path ∙ ap (leftBytes edition station path) answers
-        ∙ sym (bytes-by-answer edition station reading2 path)
-        ∙ left-2
+    → journey (stepAt edition) k stations second path ≡ endedAt j answer left2 → left1 ≡ left2
+same-bytes edition stations first second k path e f = told-bytes (told edition) stations first second k path e f

@@ -124,8 +124,8 @@ same-info-trans p q = record { dir = q .dir ∙ p .dir; start = q .start ∙ p .
 
 -- ---- moves from place to place
 
-module _ {edition : Edition} {path mid : List ℕ} {t m value : ℕ} (s : Stands edition path mid t m value) (room : headerSize path ≤ length path)
-    (inside : t < infos path) where
+module _ {edition : Edition} {path mid : List ℕ} {t m value : ℕ} (s : Stands edition path mid t m value)
+    (room : headerSize path ≤ length path) (inside : t < infos path) where
   -- its info field lies in the path
   pub info-among : currInf mid < infos mid
   info-among = rw (s .inf, infos-kept (s .kept)) inside
@@ -262,9 +262,9 @@ module _ {edition : Edition} {path mid : List ℕ} {t m : ℕ} (room : headerSiz
             go false = refl
         value false peer e p = let less : m + 1 - 1 ≡ m = omega arith in rw (less, and-false (not peer))
 
-    -- egress over the peering link, from a segment's last hop and without a beta step: the next segment's first hop, with its SegID as given
-    pub leaves-over : firstPeeringHop edition path (startOf path t + m) ≡ true → peeringHopOf edition path t m ≡ true → m + 1 ≡ countOf path t
-        → startOf path t + m + 1 < 64 → startOf path t + m + 1 ≡ startOf path (t + 1) + 0 → t + 1 < infos path
+    -- egress over the peering link, from the segment's last hop, without a beta step: the next segment's first hop, its SegID as given
+    pub leaves-over : firstPeeringHop edition path (startOf path t + m) ≡ true → peeringHopOf edition path t m ≡ true
+        → m + 1 ≡ countOf path t → startOf path t + m + 1 < 64 → startOf path t + m + 1 ≡ startOf path (t + 1) + 0 → t + 1 < infos path
         → Stands edition path (egressMove edition mid) (t + 1) 0 (arrivingSegId edition path (t + 1) 0)
     leaves-over crossing peer end few next there =
         let last : m ≡ countOf path t - 1 = omega arith in

@@ -124,8 +124,8 @@ abbrev pub changeTests : Edition → List ℕ → Station → ℕ → ℕ → �
 changeTests edition path station reading t m =
     hopTests edition path station reading t m ++ (linkTests path station t m ++ hopTests edition path station reading (t + 1) 0)
 
-module _ {edition : Edition} {path mid : List ℕ} {t m : ℕ} (g : Given path) (s : Stands edition path mid t m (arrivingSegId edition path t m))
-    (h : Hop edition path t m)
+module _ {edition : Edition} {path mid : List ℕ} {t m : ℕ} (g : Given path)
+    (s : Stands edition path mid t m (arrivingSegId edition path t m)) (h : Hop edition path t m)
     {station : Station} (r : Reached station (startOf path t + m)) (reading : ℕ) where
   pub inside : t < infos path
   inside = in-header path t (h .third) (h .long)
@@ -220,7 +220,8 @@ module _ {edition : Edition} {path mid : List ℕ} {t m : ℕ} (g : Given path) 
         let few : currHf mid + 1 < 64 = omega (arith, s .hf, g .few) in
         let last : m ≡ countOf path t - 1 = omega arith in
         let done : checkedSegId edition path t m ≡ deliveredSegId edition path t = ap (λ (n : ℕ). checkedSegId edition path t n) last in
-        subst (λ (u : ℕ). Stands edition path (setCurrInf (setCurrHf after (currHf mid + 1)) u) (t + 1) 0 (checkedSegId edition path (t + 1) 0))
+        subst
+        (λ (u : ℕ). Stands edition path (setCurrInf (setCurrHf after (currHf mid + 1)) u) (t + 1) 0 (checkedSegId edition path (t + 1) 0))
         (ap (λ (u : ℕ). u + 1) (sym (s .inf)))
         (segments-on stands-after (g .room) inside (currHf mid + 1) (t + 1) next-index few refl (behind .1) done)
 
