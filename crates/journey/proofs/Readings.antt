@@ -105,14 +105,14 @@ on-leaves (Action (Local action)) e = let z : _≡_ {A = ℕ} 0 1 = cc in absurd
 on-leaves (Refused why) e = let z : _≡_ {A = ℕ} 0 1 = cc in absurd (omega arith)
 
 -- of a step: one answer leaves the same bytes whatever the reading, and so do two that go on
-pub record Told (at : StationStep) : Type 0 where
+pub record ByAnswer (at : StationStep) : Type 0 where
   pub alike : (station : Station) (first second : ℕ) (path : List ℕ) → at station first path .answer ≡ at station second path .answer
       → at station first path .bytes ≡ at station second path .bytes
   pub going : (station : Station) (first second : ℕ) (path : List ℕ) → goesOn (at station first path .answer) ≡ true
       → goesOn (at station second path .answer) ≡ true → at station first path .bytes ≡ at station second path .bytes
 
-pub told : (edition : Edition) → Told (stepAt edition)
-told edition = record {
+pub by-answer : (edition : Edition) → ByAnswer (stepAt edition)
+by-answer edition = record {
   alike = λ station first second path e.
       bytes-by-answer edition station first path
       ∙ ap (leftBytes edition station path) e ∙ sym (bytes-by-answer edition station second path);
@@ -139,17 +139,17 @@ ends-behind at (station ∷ stations) (reading ∷ readings) k path {j} {answer}
     go true rest q = let l = rest q in omega arith
     go false rest q = let same : k ≡ j = cc in omega arith
 
-told-bytes : {at : StationStep} → Told at → (stations : List Station) (first second : List ℕ) (k : ℕ) (path : List ℕ) {j : ℕ}
+answered-bytes : {at : StationStep} → ByAnswer at → (stations : List Station) (first second : List ℕ) (k : ℕ) (path : List ℕ) {j : ℕ}
     {answer : StepAnswer} {left1 left2 : List ℕ} → journey at k stations first path ≡ endedAt j answer left1
     → journey at k stations second path ≡ endedAt j answer left2 → left1 ≡ left2
 unfolding journey
-told-bytes l [] first second k path e f = let z : _≡_ {A = ℕ} 0 1 = cc in absurd (omega arith)
-told-bytes l (station ∷ stations) [] second k path e f = let z : _≡_ {A = ℕ} 0 1 = cc in absurd (omega arith)
-told-bytes l (station ∷ stations) (reading ∷ first) [] k path e f = let z : _≡_ {A = ℕ} 0 1 = cc in absurd (omega arith)
-told-bytes {at} l (station ∷ stations) (reading1 ∷ first) (reading2 ∷ second) k path {j} {answer} {left1} {left2} e f =
+answered-bytes l [] first second k path e f = let z : _≡_ {A = ℕ} 0 1 = cc in absurd (omega arith)
+answered-bytes l (station ∷ stations) [] second k path e f = let z : _≡_ {A = ℕ} 0 1 = cc in absurd (omega arith)
+answered-bytes l (station ∷ stations) (reading ∷ first) [] k path e f = let z : _≡_ {A = ℕ} 0 1 = cc in absurd (omega arith)
+answered-bytes {at} l (station ∷ stations) (reading1 ∷ first) (reading2 ∷ second) k path {j} {answer} {left1} {left2} e f =
     go (goesOn (at station reading1 path .answer) && someLeft stations) refl
     (goesOn (at station reading2 path .answer) && someLeft stations) refl
-    (λ q r. told-bytes l stations first second (suc k) (at station reading1 path .bytes) q r) e f
+    (λ q r. answered-bytes l stations first second (suc k) (at station reading1 path .bytes) q r) e f
   where
     go : (on1 : Bool) → (goesOn (at station reading1 path .answer) && someLeft stations) ≡ on1
         → (on2 : Bool) → (goesOn (at station reading2 path .answer) && someLeft stations) ≡ on2
@@ -178,4 +178,4 @@ told-bytes {at} l (station ∷ stations) (reading1 ∷ first) (reading2 ∷ seco
 pub same-bytes : (edition : Edition) (stations : List Station) (first second : List ℕ) (k : ℕ) (path : List ℕ) {j : ℕ} {answer : StepAnswer}
     {left1 left2 : List ℕ} → journey (stepAt edition) k stations first path ≡ endedAt j answer left1
     → journey (stepAt edition) k stations second path ≡ endedAt j answer left2 → left1 ≡ left2
-same-bytes edition stations first second k path e f = told-bytes (told edition) stations first second k path e f
+same-bytes edition stations first second k path e f = answered-bytes (by-answer edition) stations first second k path e f
