@@ -11,13 +11,10 @@ use Rattle.standard_path.specs.declared.view.SegmentIndex.the-variants as segme
 use Rattle.reverse.specs.Reverse.{reverseNumber}
 use Rattle.reverse.specs.declared.Reversal.{Reversal}
 use Rattle.reverse.specs.declared.Reversal.the-variants.{Reversed, Failed}
-use Rattle.answers.specs.Answer.{refusalNumber, refusalValues, fourValues, flag}
+use Rattle.answers.specs.Answer.{refusalNumber, refusalValues, actionNumber, actionValues, fourValues, flag}
 use Rattle.answers.specs.Scmp.{toScmpError, scmpValues}
 use Rattle.answers.specs.declared.StandardRoutingError.{StandardRoutingError}
-use Rattle.answers.specs.declared.LocalAsRoutingAction.{LocalAsRoutingAction}
-use Rattle.answers.specs.declared.LocalAsRoutingAction.the-variants.{IngressSCMPHandleRequest, EgressSCMPHandleRequest, ForwardLocal}
 use Rattle.answers.specs.declared.AsRoutingAction.{AsRoutingAction}
-use Rattle.answers.specs.declared.AsRoutingAction.the-variants.{Local, ForwardNextHop}
 use Rattle.answers.specs.declared.IngressNextAction.{IngressNextAction}
 use Rattle.answers.specs.declared.IngressNextAction.the-variants as ingress
 use Rattle.answers.specs.declared.StepAnswer.{StepAnswer}
@@ -46,14 +43,8 @@ refusalReply why = reply (refusalNumber why) (refusalValues why) (toScmpError wh
 
 -- ---- what is done with a packet
 
-abbrev pub localReply : LocalAsRoutingAction → Reply
-localReply ForwardLocal = reply 102 [] NoMessage
-localReply (IngressSCMPHandleRequest interface) = reply 103 (interface ∷ []) NoMessage
-localReply (EgressSCMPHandleRequest interface) = reply 104 (interface ∷ []) NoMessage
-
-unfoldable pub actionReply : AsRoutingAction → Reply
-actionReply (ForwardNextHop interface) = reply 101 (interface ∷ []) NoMessage
-actionReply (Local action) = localReply action
+abbrev pub actionReply : AsRoutingAction → Reply
+actionReply action = reply (actionNumber action) (actionValues action) NoMessage
 
 unfoldable pub stepReply : StepAnswer → Reply
 stepReply (Action action) = actionReply action
@@ -72,9 +63,7 @@ reversalReply (Failed error) = reply (reverseNumber error) [] NoMessage
 
 unfoldable pub expirationReply : PathExpiration → Reply
 expirationReply (expiring.At time) = reply 111 (time ∷ []) NoMessage
-expirationReply expiring.MetaTooShort = reply (expirationNumber expiring.MetaTooShort) [] NoMessage
-expirationReply expiring.DataTooShort = reply (expirationNumber expiring.DataTooShort) [] NoMessage
-expirationReply expiring.TooManyHops = reply (expirationNumber expiring.TooManyHops) [] NoMessage
+expirationReply (expiring.Refused error) = reply (expirationNumber (expiring.Refused error)) [] NoMessage
 
 -- of the hop with this index: its segment, and whether it is the first there, and the last
 unfoldable pub segmentReply : ℕ → SegmentIndex → Reply

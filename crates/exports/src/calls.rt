@@ -3,7 +3,7 @@
 use crate::reply;
 use crate::reply::Reply;
 use edition::Edition;
-use journey_check::questions;
+use journey_check::verdict;
 use routing::step;
 use standard_path::view;
 ghost use mathlib.Core.Path.{_≡_};
@@ -152,13 +152,7 @@ pub extern "C" fn scion_check_journey(
 ) -> Reply
     ensures { λ r. ⌜ r ≡ journeyReply (journeyCheck First narrow (now (itinerary .entry)) earliest latest (now (path .entry))) ⌝ }
 {
-    reply::journey_reply(questions::check_journey(
-        Edition::First,
-        path,
-        itinerary,
-        earliest,
-        latest,
-    ))
+    reply::journey_reply(verdict::check_journey(Edition::First, path, itinerary, earliest, latest))
 }
 
 // ---- MACs

@@ -2,7 +2,7 @@
 use crate::reply;
 use crate::reply::Reply;
 use edition::edition_of;
-use journey_check::questions;
+use journey_check::verdict;
 use routing::step;
 ghost use mathlib.Core.Path.{_≡_};
 ghost use Rattle.edition.specs.Edition.{editionOf};
@@ -112,7 +112,7 @@ pub extern "C" fn scion_check_journey_in_edition(
     ensures { λ r. ⌜ r ≡ journeyReply (journeyCheck (editionOf «is_second») narrow (now (itinerary .entry)) earliest latest
         (now (path .entry))) ⌝ }
 {
-    reply::journey_reply(questions::check_journey(
+    reply::journey_reply(verdict::check_journey(
         edition_of(is_second),
         path,
         itinerary,

@@ -1,7 +1,6 @@
 // Answers as numbers, for callers that know no enum of Rattle.
 use answers::AsRoutingAction;
 use answers::IngressNextAction;
-use answers::LocalAsRoutingAction;
 use answers::StandardRoutingError;
 use answers::StepAnswer;
 use answers::number;
@@ -11,12 +10,13 @@ use journey::answer;
 use journey::answer::Verdict;
 use reverse::Reversal;
 use segments::PathExpiration;
+use standard_path::view;
 use standard_path::view::SegmentIndex;
 ghost use mathlib.Core.Path.{_≡_};
 ghost use mathlib.Core.List.{[], _∷_};
 ghost use Rattle.answers.specs.Answer.{flag};
 ghost use Rattle.answers.specs.declared.scmp.ScmpError.the-variants.{NoMessage};
-ghost use Rattle.exports.specs.Reply.{reply, refusalReply, localReply, actionReply, stepReply, ingressReply};
+ghost use Rattle.exports.specs.Reply.{reply, refusalReply, actionReply, stepReply, ingressReply};
 ghost use Rattle.exports.specs.Reply.{reversalReply, expirationReply, segmentReply, journeyReply};
 
 // 01's number for a refusal, one from 100 on for an action; the values it carries, in 01's order, and how many they are;
@@ -84,29 +84,14 @@ fn refusal_reply(why: StandardRoutingError) -> Reply
     }
 }
 
-fn local_reply(action: LocalAsRoutingAction) -> Reply
-    ensures { λ r. ⌜ r ≡ localReply action ⌝ }
-{
-    match action {
-        LocalAsRoutingAction::ForwardLocal => number_reply(102),
-        LocalAsRoutingAction::IngressSCMPHandleRequest { interface_id } => {
-            value_reply(103, interface_id as u64)
-        }
-        LocalAsRoutingAction::EgressSCMPHandleRequest { interface_id } => {
-            value_reply(104, interface_id as u64)
-        }
-    }
-}
-
 fn action_reply(action: AsRoutingAction) -> Reply
     ensures { λ r. ⌜ r ≡ actionReply action ⌝ }
 {
-    match action {
-        AsRoutingAction::ForwardNextHop {
-            egress_interface_id,
-        } => value_reply(101, egress_interface_id as u64),
-        AsRoutingAction::Local(action) => local_reply(action),
-    }
+    plain(
+        number::action_number(action) as u16,
+        number::action_value_count(action) as u16,
+        number::action_values(action),
+    )
 }
 
 pub fn step_reply(answer: StepAnswer) -> Reply
@@ -144,9 +129,7 @@ pub fn expiration_reply(answer: PathExpiration) -> Reply
 {
     match answer {
         PathExpiration::At(time) => value_reply(111, time as u64),
-        PathExpiration::MetaTooShort => number_reply(2),
-        PathExpiration::DataTooShort => number_reply(3),
-        PathExpiration::TooManyHops => number_reply(4),
+        PathExpiration::Refused(error) => number_reply(view::header_number(error) as u16),
     }
 }
 

@@ -12,7 +12,7 @@
 mod print;
 
 use edition::Edition;
-use journey_check::questions;
+use journey_check::verdict;
 use libc::STDIN_FILENO;
 use script::buffer;
 use script::words;
@@ -49,7 +49,7 @@ fn run_case(line: &[u8], path: &[u8], itinerary: &[u8]) {
     let latest = words::number(line, words::third(line));
     let label = words::fourth(line);
     print::put(&line[label..]);
-    print::put_verdict(questions::check_journey(Edition::First, path, itinerary, earliest, latest));
+    print::put_verdict(verdict::check_journey(Edition::First, path, itinerary, earliest, latest));
 }
 
 fn run_line(

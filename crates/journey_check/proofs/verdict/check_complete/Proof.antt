@@ -4,17 +4,17 @@ use borrow.Author.Tests.{not-true, not-false}
 use Rattle.octets.proofs.Bools.{first-of}
 use Rattle.records.specs.Layout.{narrow}
 use Rattle.journey.specs.Check.{passes}
-use Rattle.journey.specs.Verdict.{firstNo}
+use Rattle.questions.specs.Questions.{asks}
 use Rattle.journey_check.proofs.Stations.{fits-counted}
-use Rattle.journey_check.proofs.questions.check_complete.Statement.{statement}
-use Rattle.journey_check.proofs.questions.check_complete.Tie as tie
+use Rattle.journey_check.proofs.verdict.check_complete.Statement.{statement}
+use Rattle.journey_check.proofs.verdict.check_complete.Tie as tie
 
 returns : tie.Need-returns
-unfolding firstNo
+unfolding asks
 returns c = rw (← c .before .itinerary-fits .ensures, not-true (c .before .itinerary-fits .result) (c .if1 .taken))
 
 returns-2 : tie.Need-returns-2
-unfolding firstNo
+unfolding asks
 returns-2 c =
     let itinerary-fits = c .before .before .before .itinerary-fits in
     let if1 = c .before .before .if1 in
@@ -26,7 +26,7 @@ returns-2 c =
     )
 
 returns-3 : tie.Need-returns-3
-unfolding firstNo
+unfolding asks
 returns-3 c =
     let itinerary-fits = c .before .before .before .before .before .itinerary-fits in
     let if1 = c .before .before .before .before .if1 in
@@ -48,7 +48,7 @@ passes-requires c κs =
     fits-counted narrow _ _ (first-of _ _ (sym (itinerary-fits .ensures) ∙ not-false (itinerary-fits .result) (if1 .left)))
 
 returns-4 : tie.Need-returns-4
-unfolding firstNo
+unfolding asks
 returns-4 c =
     let itinerary-fits = c .before .before .before .before .before .before .before .itinerary-fits in
     let if1 = c .before .before .before .before .before .before .if1 in
@@ -68,7 +68,7 @@ returns-4 c =
     )
 
 returns-5 : tie.Need-returns-5
-unfolding firstNo
+unfolding asks
 returns-5 c =
     let itinerary-fits = c .before .before .before .before .before .before .before .itinerary-fits in
     let if1 = c .before .before .before .before .before .before .if1 in

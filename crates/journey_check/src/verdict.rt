@@ -11,15 +11,16 @@ ghost use mathlib.Core.Path.{_≡_};
 ghost use mathlib.Core.Bool.{not, _&&_, cond};
 ghost use lib.Dec.{eqb, leb};
 ghost use lib.ListN.{length, drop};
+ghost use Rattle.questions.specs.Questions.{asks};
 ghost use Rattle.aes.specs.ByTable.{roundTable};
 ghost use Rattle.standard_path.specs.Meta.{currHf, currInf};
 ghost use Rattle.fields.specs.Fields.{consIngressAlert, consEgressAlert};
 ghost use Rattle.records.specs.Layout.{narrow};
 ghost use Rattle.itinerary.specs.Itinerary.{stations, itineraryFits};
 ghost use Rattle.journey.specs.Check.{passes};
-ghost use Rattle.journey.specs.Verdict.{stationCount, quiet, questions, firstNo, journeyCheck};
+ghost use Rattle.journey.specs.Verdict.{stationCount, quiet, questions, journeyCheck};
 ghost use Rattle.journey.specs.Journey.{Demand3};
-ghost use Rattle.journey.specs.declared.answer.Verdict.the-variants.{Passed, NotPassed};
+ghost use Rattle.journey.specs.declared.answer.Verdict.the-variants.{Passed, NotPassed, Refused};
 
 // ---- the conditions of a pass
 
@@ -112,7 +113,7 @@ fn check_complete(
     earliest: u32,
     latest: u32,
 ) -> Verdict
-    ensures { λ r. ⌜ r ≡ firstNo (drop 3 (questions edition narrow (now (itinerary .entry)) earliest latest (now (path .entry))))
+    ensures { λ r. ⌜ r ≡ asks Refused (drop 3 (questions edition narrow (now (itinerary .entry)) earliest latest (now (path .entry))))
         (cond (passes edition (stations narrow (now (itinerary .entry))) earliest latest (now (path .entry))) Passed NotPassed) ⌝ }
 {
     if !itinerary_fits(edition, itinerary, earliest, latest, path) {
@@ -142,9 +143,7 @@ pub fn check_journey(
     ensures { λ r. ⌜ Demand3 edition narrow (now (itinerary .entry)) earliest latest (now (path .entry)) r ⌝ }
 {
     match view::check_header(path) {
-        HeaderCheck::MetaTooShort => Verdict::Refused(JourneyError::MetaTooShort),
-        HeaderCheck::DataTooShort => Verdict::Refused(JourneyError::DataTooShort),
-        HeaderCheck::TooManyHops => Verdict::Refused(JourneyError::TooManyHops),
+        HeaderCheck::Failed(error) => Verdict::Refused(JourneyError::HeaderFailed(error)),
         HeaderCheck::Complete => check_complete(edition, path, itinerary, earliest, latest),
     }
 }

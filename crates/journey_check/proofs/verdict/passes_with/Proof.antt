@@ -2,8 +2,8 @@ use borrow.Author.Needs.{needs}
 use mathlib.Core.Path.{sym, _∙_}
 use borrow.Author.Tests.{not-true, not-false}
 use Rattle.journey.specs.Check.{passes}
-use Rattle.journey_check.proofs.questions.passes_with.Statement.{statement}
-use Rattle.journey_check.proofs.questions.passes_with.Tie as tie
+use Rattle.journey_check.proofs.verdict.passes_with.Statement.{statement}
+use Rattle.journey_check.proofs.verdict.passes_with.Tie as tie
 
 returns : tie.Need-returns
 unfolding passes
