@@ -1,6 +1,5 @@
 use borrow.Author.Needs.{needs}
 use borrow.Author.Needs.{needs}
-
 use Rattle.moves.proofs.ingress_segment_id.Statement.{statement}
 use Rattle.moves.proofs.ingress_segment_id.Tie as tie
 use Rattle.moves.proofs.ingress_segment_id.Reads as reads

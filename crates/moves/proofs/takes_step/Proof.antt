@@ -1,6 +1,5 @@
 use borrow.Author.Needs.{needs}
 use borrow.Author.Needs.{needs}
-
 use Rattle.moves.proofs.takes_step.Statement.{statement}
 use Rattle.moves.proofs.takes_step.Tie as tie
 use Rattle.moves.proofs.takes_step.Reads as reads
