@@ -14,9 +14,10 @@ use Rattle.octets.proofs.Bools.{each-of, each-of-3, each-of-4, each-way}
 use Rattle.interface_table.specs.Table.{tableSound}
 use Rattle.interface_table.proofs.Entries.{sound-by-entries}
 use Rattle.records.specs.Layout.{Layout}
-use Rattle.records.specs.Records.{every, recordCount, nextOf, interfaceNumberOf, firstInterfaceOf, firstStation, chain}
-use Rattle.itinerary.specs.Itinerary.{stationRecords, nextSound, isNoStation, interfaceSound, stationSound, sizeSound, zerosSound, headSound, soundWithin, stationWithin, stationsWithin, tablesSound, arrivalsFit, fitsWithin, itinerarySound, itineraryFits}
-use Rattle.records.proofs.Every.{every-implied, every-both, every-alike, every-same, map-same}
+use Rattle.records.specs.Records.{every, recordCount, nextOf, interfaceNumberOf, firstInterfaceOf, firstStation, chainWithin}
+use Rattle.itinerary.specs.Itinerary.{nextSound, interfaceSound, stationSound, sizeSound, zerosSound, headSound, soundOf, itinerarySound, stationWith, stationsOf, tablesSound, arrivalsFit, planFits, itineraryFits}
+use Rattle.itinerary.specs.Inner.{stationRecordsWithin, tableRecordsWithin, soundWithin, stationsWithin, fitsWithin}
+use Rattle.records.proofs.Every.{every-implied, every-both, every-same, map-same}
 use Rattle.records.proofs.Walks.{chain-end}
 use Rattle.itinerary.proofs.Stations.{hasSoundTable, tables-by-records, count-by-records}
 
@@ -31,7 +32,7 @@ module _ (layout : Layout) (itinerary : List ℕ) where
   next index = nextOf layout itinerary index
 
   abbrev from : ℕ → ℕ → List ℕ
-  from limit index = chain layout itinerary limit index
+  from limit index = chainWithin layout itinerary limit index
 
   abbrev first : ℕ
   first = firstStation layout itinerary
@@ -42,7 +43,7 @@ module _ (layout : Layout) (itinerary : List ℕ) where
   -- ---- a chain that ends before one limit and before another is the same with both
 
   same-chain : (one other index : ℕ) → length (from one index) < one → length (from one index) < other → from other index ≡ from one index
-  unfolding chain
+  unfolding chainWithin
   same-chain zero other index h k = absurd (omega arith)
   same-chain (suc one) zero index h k = absurd (omega arith)
   same-chain (suc one) (suc other) index h k = go (eqb index 0) (same-chain one other (next index)) h k
@@ -68,7 +69,7 @@ module _ (layout : Layout) (itinerary : List ℕ) where
 
   goes-up : (limit index : ℕ) → (index ≡ 0 → ⊥) → index < records → every (nextSound layout itinerary) (from limit index) ≡ true
       → length (from limit index) + index ≤ records
-  unfolding every chain
+  unfolding every chainWithin
   goes-up zero index n h e = omega arith
   goes-up (suc limit) index n h e =
       let split : (nextSound layout itinerary index && every (nextSound layout itinerary) (from limit (next index))) ≡ true =
@@ -91,66 +92,59 @@ module _ (layout : Layout) (itinerary : List ℕ) where
 
   -- ---- so do those that soundness is asked of
 
-  interface-next : (stationLimit index : ℕ) → interfaceSound layout itinerary stationLimit index ≡ true
+  interface-next : (stations : List ℕ) (index : ℕ) → interfaceSound layout itinerary stations index ≡ true
       → nextSound layout itinerary index ≡ true
   unfolding interfaceSound
-  interface-next stationLimit index e = each-of-3 (nextSound layout itinerary index) _ _ e .0
+  interface-next stations index e = each-of-3 (nextSound layout itinerary index) _ _ e .0
 
-  module _ (stationLimit tableLimit : ℕ) where
-    module _ (station : ℕ) (e : stationSound layout itinerary stationLimit tableLimit station ≡ true) where
-      pub station-next : nextSound layout itinerary station ≡ true
-      unfolding stationSound
-      station-next = each-of-4 (nextSound layout itinerary station) _ _ _ e .0
+  pub station-next : (stations : List ℕ) (table : ℕ → List ℕ) (station : ℕ) → stationSound layout itinerary stations table station ≡ true
+      → nextSound layout itinerary station ≡ true
+  unfolding stationSound
+  station-next stations table station e = each-of-4 (nextSound layout itinerary station) _ _ _ e .0
 
-      table-fewer : length (from tableLimit (firstIn station)) < records
-      unfolding stationSound
-      table-fewer =
-          let held = each-of-4 (nextSound layout itinerary station) _ _ _ e in
-          let rises = every-implied _ _ _ (interface-next stationLimit) (held .3) in
-          fewer tableLimit (firstIn station) rises (ltb-true _ _ (held .2))
+  table-fewer : (stations : List ℕ) (tableLimit station : ℕ)
+      → stationSound layout itinerary stations (tableRecordsWithin layout itinerary tableLimit) station ≡ true
+      → length (from tableLimit (firstIn station)) < records
+  unfolding stationSound
+  table-fewer stations tableLimit station e =
+      let held = each-of-4 (nextSound layout itinerary station) _ _ _ e in
+      let rises = every-implied _ _ _ (interface-next stations) (held .3) in
+      fewer tableLimit (firstIn station) rises (ltb-true _ _ (held .2))
 
-    module _ (e : soundWithin layout itinerary stationLimit tableLimit ≡ true) where
-      each-sound : every (stationSound layout itinerary stationLimit tableLimit) (from stationLimit first) ≡ true
-      unfolding soundWithin
-      each-sound = each-of-3 (sizeSound layout itinerary) (headSound layout itinerary) _ e .2
+  module _ (stationLimit : ℕ) (table : ℕ → List ℕ) (e : soundOf layout itinerary (from stationLimit first) table ≡ true) where
+    each-sound : every (stationSound layout itinerary (from stationLimit first) table) (from stationLimit first) ≡ true
+    unfolding soundOf
+    each-sound = each-of-3 (sizeSound layout itinerary) (headSound layout itinerary) _ e .2
 
-      stations-fewer : length (from stationLimit first) < records
-      unfolding soundWithin headSound
-      stations-fewer =
-          let head = each-of-3 (sizeSound layout itinerary) (headSound layout itinerary) _ e .1 in
-          let start = each-of (zerosSound layout itinerary (layout .headZeros) 0) _ head .1 in
-          fewer stationLimit first (every-implied _ _ _ station-next each-sound) (ltb-true _ _ start)
+    stations-fewer : length (from stationLimit first) < records
+    unfolding soundOf headSound
+    stations-fewer =
+        let head = each-of-3 (sizeSound layout itinerary) (headSound layout itinerary) _ e .1 in
+        let start = each-of (zerosSound layout itinerary (layout .headZeros) 0) _ head .1 in
+        fewer stationLimit first (every-implied _ _ _ (station-next (from stationLimit first) table) each-sound) (ltb-true _ _ start)
 
-  -- ---- what two pairs of limits come to, where the chains are the same with both
+  -- ---- tables that are the same at each station come to the same
 
-  module _ (stationLimit tableLimit stationLimit′ tableLimit′ : ℕ) (same : from stationLimit′ first ≡ from stationLimit first) where
-    interface-alike : (index : ℕ) → interfaceSound layout itinerary stationLimit′ index ≡ interfaceSound layout itinerary stationLimit index
-    unfolding interfaceSound isNoStation
-    interface-alike index = rw same
+  module _ (stations : List ℕ) (one other : ℕ → List ℕ) where
+    station-alike : (station : ℕ) → other station ≡ one station
+        → stationSound layout itinerary stations other station ≡ stationSound layout itinerary stations one station
+    unfolding stationSound
+    station-alike station same = rw same
 
-    module _ (station : ℕ) (table : from tableLimit′ (firstIn station) ≡ from tableLimit (firstIn station)) where
-      station-alike : stationSound layout itinerary stationLimit′ tableLimit′ station
-          ≡ stationSound layout itinerary stationLimit tableLimit station
-      unfolding stationSound
-      station-alike = rw (table, every-alike _ _ (from tableLimit (firstIn station)) interface-alike)
+    read-alike : (station : ℕ) → other station ≡ one station
+        → stationWith layout itinerary other station ≡ stationWith layout itinerary one station
+    unfolding stationWith
+    read-alike station same = rw same
 
-      read-alike : stationWithin layout itinerary tableLimit′ station ≡ stationWithin layout itinerary tableLimit station
-      unfolding stationWithin
-      read-alike = rw table
+    module _ (known : ℕ → Bool) (each : every known stations ≡ true)
+        (same : (station : ℕ) → known station ≡ true → other station ≡ one station) where
+      sound-alike : soundOf layout itinerary stations other ≡ soundOf layout itinerary stations one
+      unfolding soundOf
+      sound-alike = rw (every-same known _ _ stations (λ s e. station-alike s (same s e)) each)
 
-    module _ (known : ℕ → Bool) (each : every known (from stationLimit first) ≡ true)
-        (tables : (station : ℕ) → known station ≡ true → from tableLimit′ (firstIn station) ≡ from tableLimit (firstIn station)) where
-      sound-alike : soundWithin layout itinerary stationLimit′ tableLimit′ ≡ soundWithin layout itinerary stationLimit tableLimit
-      unfolding soundWithin
-      sound-alike =
-          let stations = every-same known _ _ (from stationLimit first) (λ s e. station-alike s (tables s e)) each in
-          rw (same, stations)
-
-      stations-alike : stationsWithin layout itinerary stationLimit′ tableLimit′ ≡ stationsWithin layout itinerary stationLimit tableLimit
-      unfolding stationsWithin
-      stations-alike =
-          let stations = map-same known _ _ (from stationLimit first) (λ s e. read-alike s (tables s e)) each in
-          rw (same, stations)
+      stations-alike : stationsOf layout itinerary stations other ≡ stationsOf layout itinerary stations one
+      unfolding stationsOf
+      stations-alike = map-same known _ _ stations (λ s e. read-alike s (same s e)) each
 
   -- ---- soundness: limits of as many as there are records, or more, are all the same
 
@@ -159,10 +153,13 @@ module _ (layout : Layout) (itinerary : List ℕ) where
     same-soundness : soundWithin layout itinerary stationLimit tableLimit ≡ true
         → soundWithin layout itinerary stationLimit′ tableLimit′ ≡ soundWithin layout itinerary stationLimit tableLimit
     same-soundness e =
-        let few = stations-fewer stationLimit tableLimit e in
+        let few = stations-fewer stationLimit (tableRecordsWithin layout itinerary tableLimit) e in
         let same = same-chain stationLimit stationLimit′ first (omega arith) (omega arith) in
-        sound-alike stationLimit tableLimit stationLimit′ tableLimit′ same _ (each-sound stationLimit tableLimit e)
-        (λ i q. let short = table-fewer stationLimit tableLimit i q in same-chain tableLimit tableLimit′ (firstIn i) (omega arith) (omega arith))
+        rw same
+        (sound-alike (from stationLimit first) (tableRecordsWithin layout itinerary tableLimit)
+        (tableRecordsWithin layout itinerary tableLimit′) _ (each-sound stationLimit (tableRecordsWithin layout itinerary tableLimit) e)
+        (λ i q. let short = table-fewer (from stationLimit first) tableLimit i q in
+        same-chain tableLimit tableLimit′ (firstIn i) (omega arith) (omega arith)))
 
   pub whole-sound : (stationLimit tableLimit : ℕ) → records ≤ stationLimit → records ≤ tableLimit
       → soundWithin layout itinerary stationLimit tableLimit ≡ itinerarySound layout itinerary
@@ -172,9 +169,9 @@ module _ (layout : Layout) (itinerary : List ℕ) where
 
   -- ---- with the station count wanted, and sound tables
 
-  table-few : (tableLimit station : ℕ) → hasSoundTable layout itinerary tableLimit station ≡ true
+  table-few : (tableLimit station : ℕ) → hasSoundTable layout itinerary (tableRecordsWithin layout itinerary tableLimit) station ≡ true
       → length (from tableLimit (firstIn station)) ≤ 256
-  unfolding stationWithin
+  unfolding stationWith
   table-few tableLimit station e =
       let few = table-size (map (interfaceNumberOf layout itinerary) (from tableLimit (firstIn station))) _ e in
       rw length-map at few
@@ -186,17 +183,25 @@ module _ (layout : Layout) (itinerary : List ℕ) where
 
   module _ (wanted stationLimit tableLimit stationLimit′ tableLimit′ : ℕ) (reach : Reach wanted stationLimit tableLimit)
       (reach′ : Reach wanted stationLimit′ tableLimit′) (e : fitsWithin layout itinerary stationLimit tableLimit wanted ≡ true) where
-    parts : (soundWithin layout itinerary stationLimit tableLimit ≡ true) × (length (from stationLimit first) ≡ wanted)
-        × (every (hasSoundTable layout itinerary tableLimit) (from stationLimit first) ≡ true)
+    abbrev reached : List ℕ
+    reached = from stationLimit first
+
+    abbrev tables : ℕ → ℕ → List ℕ
+    tables limit = tableRecordsWithin layout itinerary limit
+
+    parts : (soundWithin layout itinerary stationLimit tableLimit ≡ true) × (length reached ≡ wanted)
+        × (every (hasSoundTable layout itinerary (tables tableLimit)) reached ≡ true)
     unfolding fitsWithin
     parts =
-        let held = each-of-4 (soundWithin layout itinerary stationLimit tableLimit) _ _ _ e in
-        let count = sym (count-by-records layout itinerary stationLimit tableLimit) ∙ eqb-true _ _ (held .1) in
-        (held .0, count, sym (tables-by-records layout itinerary stationLimit tableLimit) ∙ held .3)
+        let read = stationsWithin layout itinerary stationLimit tableLimit in
+        let held = each-of (soundWithin layout itinerary stationLimit tableLimit && tablesSound read && arrivalsFit read) _ e in
+        let plan = each-of-3 (soundWithin layout itinerary stationLimit tableLimit) _ _ (held .0) in
+        let count = sym (count-by-records layout itinerary reached (tables tableLimit)) ∙ eqb-true _ _ (held .1) in
+        (plan .0, count, sym (tables-by-records layout itinerary reached (tables tableLimit)) ∙ plan .1)
 
-    same-stations : from stationLimit′ first ≡ from stationLimit first
+    same-stations : from stationLimit′ first ≡ reached
     same-stations =
-        let few = stations-fewer stationLimit tableLimit (parts .0) in
+        let few = stations-fewer stationLimit (tables tableLimit) (parts .0) in
         let count = parts .1 in
         let below : wanted < records = omega arith in
         let one = reach .stations below in
@@ -204,26 +209,28 @@ module _ (layout : Layout) (itinerary : List ℕ) where
         same-chain stationLimit stationLimit′ first (omega arith) (omega arith)
 
     abbrev known : ℕ → Bool
-    known station = stationSound layout itinerary stationLimit tableLimit station && hasSoundTable layout itinerary tableLimit station
+    known station =
+        stationSound layout itinerary reached (tables tableLimit) station && hasSoundTable layout itinerary (tables tableLimit) station
 
-    same-table : (station : ℕ) → known station ≡ true → from tableLimit′ (firstIn station) ≡ from tableLimit (firstIn station)
+    same-table : (station : ℕ) → known station ≡ true → tables tableLimit′ station ≡ tables tableLimit station
     same-table station q =
-        let held = each-of (stationSound layout itinerary stationLimit tableLimit station) _ q in
+        let held = each-of (stationSound layout itinerary reached (tables tableLimit) station) _ q in
         let few = table-few tableLimit station (held .1) in
-        let short = table-fewer stationLimit tableLimit station (held .0) in
+        let short = table-fewer reached tableLimit station (held .0) in
         same-chain tableLimit tableLimit′ (firstIn station) (reach .table _ few short) (reach′ .table _ few short)
 
-    each-known : every known (from stationLimit first) ≡ true
-    each-known = every-both _ _ _ (each-sound stationLimit tableLimit (parts .0)) (parts .2)
+    each-known : every known reached ≡ true
+    each-known = every-both _ _ _ (each-sound stationLimit (tables tableLimit) (parts .0)) (parts .2)
 
     same-fit : fitsWithin layout itinerary stationLimit′ tableLimit′ wanted ≡ fitsWithin layout itinerary stationLimit tableLimit wanted
     unfolding fitsWithin
     same-fit =
-        let sound = sound-alike stationLimit tableLimit stationLimit′ tableLimit′ same-stations known each-known same-table in
-        rw (sound, stations-alike stationLimit tableLimit stationLimit′ tableLimit′ same-stations known each-known same-table)
+        let sound = sound-alike reached (tables tableLimit) (tables tableLimit′) known each-known same-table in
+        rw (same-stations, sound, stations-alike reached (tables tableLimit) (tables tableLimit′) known each-known same-table)
 
   -- one station more than wanted, and one record more than a sound table has
   pub fits-bounded : (wanted : ℕ) → fitsWithin layout itinerary (wanted + 1) 257 wanted ≡ itineraryFits layout itinerary wanted
+  unfolding fitsWithin planFits itineraryFits
   fits-bounded wanted =
       each-way _ _ (λ e. same-fit wanted (wanted + 1) 257 records records bounded whole e ∙ e)
       (λ e. same-fit wanted records records (wanted + 1) 257 whole bounded e ∙ e)
@@ -236,8 +243,11 @@ module _ (layout : Layout) (itinerary : List ℕ) where
 
   -- the same, as the code asks it
   pub fits-asked : (wanted : ℕ)
-      → (soundWithin layout itinerary (wanted + 1) 257 && eqb (length (stationRecords layout itinerary (wanted + 1))) wanted
-      && arrivalsFit (stationsWithin layout itinerary (wanted + 1) 257) && tablesSound (stationsWithin layout itinerary (wanted + 1) 257))
+      → ((soundWithin layout itinerary (wanted + 1) 257 && tablesSound (stationsWithin layout itinerary (wanted + 1) 257)
+      && arrivalsFit (stationsWithin layout itinerary (wanted + 1) 257))
+      && eqb (length (stationRecordsWithin layout itinerary (wanted + 1))) wanted)
       ≡ itineraryFits layout itinerary wanted
   unfolding fitsWithin
-  fits-asked wanted = rw (← count-by-records layout itinerary (wanted + 1) 257) (fits-bounded wanted)
+  fits-asked wanted =
+      let reached = stationRecordsWithin layout itinerary (wanted + 1) in
+      rw (← count-by-records layout itinerary reached (tableRecordsWithin layout itinerary 257)) (fits-bounded wanted)

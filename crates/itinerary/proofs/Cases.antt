@@ -7,8 +7,8 @@ use Prim.Native.Nat.{ℕ, zero, suc, _+_, _*_}
 use lib.ListN.{length, set, take}
 use Rattle.interface_table.specs.Table.{idsAscending, statesSound, tableSound}
 use Rattle.records.specs.Layout.{narrow}
-use Rattle.records.specs.Records.{every, recordCount, bytesOf, nextOf, arrivalOf, firstInterfaceOf, interfaceNumberOf, interfaceStateOf, chain}
-use Rattle.itinerary.specs.Itinerary.{sizeSound, nextSound, areZero, zerosSound, isNoStation, interfaceSound, stationSound, headSound, soundWithin, stationWithin, stationsWithin, tablesSound, arrivalsFit, fitsWithin, itinerarySound, itineraryFits}
+use Rattle.records.specs.Records.{every, recordCount, bytesOf, nextOf, arrivalOf, firstInterfaceOf, interfaceNumberOf, interfaceStateOf, chainWithin}
+use Rattle.itinerary.specs.Itinerary.{sizeSound, nextSound, areZero, zerosSound, isNoStation, interfaceSound, stationSound, headSound, soundOf, itinerarySound, stationWith, stationsOf, tablesSound, arrivalsFit, planFits, itineraryFits}
 
 -- these bytes, and zeros up to n
 abbrev padded : ℕ → List ℕ → List ℕ
@@ -56,8 +56,8 @@ soundOnes =
     ∷ []
 
 sound : AllAnswer (itinerarySound narrow) true soundOnes
-unfolding every recordCount bytesOf nextOf firstInterfaceOf chain sizeSound nextSound areZero zerosSound
-    isNoStation interfaceSound stationSound headSound soundWithin
+unfolding every recordCount bytesOf nextOf firstInterfaceOf chainWithin sizeSound nextSound areZero zerosSound
+    isNoStation interfaceSound stationSound headSound soundOf
 sound = refl
 
 abbrev unsoundOnes : List (List ℕ)
@@ -93,8 +93,8 @@ unsoundOnes =
     ∷ []
 
 unsound : AllAnswer (itinerarySound narrow) false unsoundOnes
-unfolding every recordCount bytesOf nextOf firstInterfaceOf chain sizeSound nextSound areZero zerosSound
-    isNoStation interfaceSound stationSound headSound soundWithin
+unfolding every recordCount bytesOf nextOf firstInterfaceOf chainWithin sizeSound nextSound areZero zerosSound
+    isNoStation interfaceSound stationSound headSound soundOf
 unsound = refl
 
 -- 2,048 records may be sound, 2,049 are not
@@ -103,7 +103,7 @@ unfolding recordCount sizeSound
 most itinerary e = rw e
 
 too-many : (itinerary : List ℕ) → length itinerary ≡ 65568 → itinerarySound narrow itinerary ≡ false
-unfolding recordCount sizeSound soundWithin
+unfolding recordCount sizeSound soundOf
 too-many itinerary e = rw e
 
 -- ---- question 23, for two stations
@@ -117,9 +117,10 @@ fittingOnes =
     ∷ []
 
 fits : AllAnswer (λ itinerary. itineraryFits narrow itinerary 2) true fittingOnes
-unfolding every recordCount bytesOf nextOf firstInterfaceOf chain sizeSound nextSound areZero zerosSound
-    isNoStation interfaceSound stationSound headSound soundWithin
-    arrivalOf interfaceNumberOf interfaceStateOf stationWithin stationsWithin tablesSound arrivalsFit fitsWithin idsAscending statesSound tableSound
+unfolding every recordCount bytesOf nextOf firstInterfaceOf chainWithin sizeSound nextSound areZero zerosSound
+    isNoStation interfaceSound stationSound headSound soundOf
+    arrivalOf interfaceNumberOf interfaceStateOf stationWith stationsOf tablesSound arrivalsFit planFits itineraryFits
+    idsAscending statesSound tableSound
 fits = refl
 
 abbrev unfitOnes : List (List ℕ)
@@ -138,7 +139,8 @@ unfitOnes =
     ∷ []
 
 unfit : AllAnswer (λ itinerary. itineraryFits narrow itinerary 2) false unfitOnes
-unfolding every recordCount bytesOf nextOf firstInterfaceOf chain sizeSound nextSound areZero zerosSound
-    isNoStation interfaceSound stationSound headSound soundWithin
-    arrivalOf interfaceNumberOf interfaceStateOf stationWithin stationsWithin tablesSound arrivalsFit fitsWithin idsAscending statesSound tableSound
+unfolding every recordCount bytesOf nextOf firstInterfaceOf chainWithin sizeSound nextSound areZero zerosSound
+    isNoStation interfaceSound stationSound headSound soundOf
+    arrivalOf interfaceNumberOf interfaceStateOf stationWith stationsOf tablesSound arrivalsFit planFits itineraryFits
+    idsAscending statesSound tableSound
 unfit = refl

@@ -10,8 +10,10 @@ use borrow.Author.Tests.{ne-eqb, lt-ltb, le-ltb, le-leb, leb-true, ltb-true, ltb
 use lib.Dec.{eqb, leb, ltb}
 use Rattle.octets.proofs.Bools.{each-of, each-of-3, each-way}
 use Rattle.records.specs.Layout.{Layout}
-use Rattle.records.specs.Records.{every, nextOf, firstStation, chain, dropBelow}
-use Rattle.itinerary.specs.Itinerary.{stationRecords, nextSound, zerosSound, isNoStation, interfaceSound, stationSound}
+use Rattle.records.specs.Records.{every, nextOf, firstStation, chainWithin}
+use Rattle.records.specs.Inner.{dropBelow}
+use Rattle.itinerary.specs.Itinerary.{nextSound, zerosSound, isNoStation, interfaceSound, stationSound}
+use Rattle.itinerary.specs.Inner.{stationRecordsWithin}
 use Rattle.records.proofs.Every.{every-implied, every-same}
 use Rattle.records.proofs.Walks.{chain-end, chain-out, chain-on}
 use Rattle.itinerary.proofs.Bound.{next-sound, station-next}
@@ -54,13 +56,13 @@ module _ (layout : Layout) (itinerary : List ℕ) where
   next index = nextOf layout itinerary index
 
   abbrev from : ℕ → ℕ → List ℕ
-  from limit index = chain layout itinerary limit index
+  from limit index = chainWithin layout itinerary limit index
 
   -- ---- a sound chain starts with its lowest record
 
   lowest-first : (limit index : ℕ) → (index ≡ 0 → ⊥) → every (nextSound layout itinerary) (from limit index) ≡ true
       → every (λ x. leb index x) (from limit index) ≡ true
-  unfolding every chain
+  unfolding every chainWithin
   lowest-first zero index n e = refl
   lowest-first (suc limit) index n e =
       let split : (nextSound layout itinerary index && every (nextSound layout itinerary) (from limit (next index))) ≡ true =
@@ -115,41 +117,41 @@ module _ (layout : Layout) (itinerary : List ℕ) where
 
 -- ---- the loop along both: `place` in the stations' chain, `index` in the table's
 
-pub record Merged (layout : Layout) (itinerary : List ℕ) (stationLimit tableLimit first stationsLeft station left index : ℕ) : Type 0 where
-  pub rest : every (interfaceSound layout itinerary stationLimit) (chain layout itinerary tableLimit first)
-      ≡ every (asks layout itinerary (chain layout itinerary stationsLeft station)) (chain layout itinerary left index)
-  pub rises : every (nextSound layout itinerary) (chain layout itinerary stationsLeft station) ≡ true
+pub record Merged (layout : Layout) (itinerary stations : List ℕ) (tableLimit first stationsLeft station left index : ℕ) : Type 0 where
+  pub rest : every (interfaceSound layout itinerary stations) (chainWithin layout itinerary tableLimit first)
+      ≡ every (asks layout itinerary (chainWithin layout itinerary stationsLeft station)) (chainWithin layout itinerary left index)
+  pub rises : every (nextSound layout itinerary) (chainWithin layout itinerary stationsLeft station) ≡ true
 
 pub merged-start : (layout : Layout) (itinerary : List ℕ) (stationLimit tableLimit : ℕ) {station first index : ℕ}
-    → every (nextSound layout itinerary) (stationRecords layout itinerary stationLimit) ≡ true
+    → every (nextSound layout itinerary) (stationRecordsWithin layout itinerary stationLimit) ≡ true
     → station ≡ firstStation layout itinerary → index ≡ first
-    → Merged layout itinerary stationLimit tableLimit first stationLimit station tableLimit index
+    → Merged layout itinerary (stationRecordsWithin layout itinerary stationLimit) tableLimit first stationLimit station tableLimit index
 unfolding interfaceSound isNoStation
 merged-start layout itinerary stationLimit tableLimit rises e d = record { rest = rw (e, d); rises = rw e rises }
 
-module _ {layout : Layout} {itinerary : List ℕ} {stationLimit tableLimit first stationsLeft station left index : ℕ}
-    (merged : Merged layout itinerary stationLimit tableLimit first stationsLeft station left index) where
-  pub merged-end : index ≡ 0 → true ≡ every (interfaceSound layout itinerary stationLimit) (chain layout itinerary tableLimit first)
+module _ {layout : Layout} {itinerary stations : List ℕ} {tableLimit first stationsLeft station left index : ℕ}
+    (merged : Merged layout itinerary stations tableLimit first stationsLeft station left index) where
+  pub merged-end : index ≡ 0 → true ≡ every (interfaceSound layout itinerary stations) (chainWithin layout itinerary tableLimit first)
   unfolding every
   merged-end e = sym (merged .rest ∙ rw (chain-end layout itinerary left index e))
 
-  pub merged-out : left ≡ 0 → true ≡ every (interfaceSound layout itinerary stationLimit) (chain layout itinerary tableLimit first)
+  pub merged-out : left ≡ 0 → true ≡ every (interfaceSound layout itinerary stations) (chainWithin layout itinerary tableLimit first)
   unfolding every
   merged-out e = sym (merged .rest ∙ rw (chain-out layout itinerary left index e))
 
   module _ (more : 0 < left) (here : index ≡ 0 → ⊥) where
-    merged-no : asks layout itinerary (chain layout itinerary stationsLeft station) index ≡ false
-        → false ≡ every (interfaceSound layout itinerary stationLimit) (chain layout itinerary tableLimit first)
+    merged-no : asks layout itinerary (chainWithin layout itinerary stationsLeft station) index ≡ false
+        → false ≡ every (interfaceSound layout itinerary stations) (chainWithin layout itinerary tableLimit first)
     unfolding every
     merged-no e = sym (merged .rest ∙ rw (chain-on layout itinerary left index _ more here refl, e))
 
     pub merged-unsound : (nextSound layout itinerary index && zerosSound layout itinerary (layout .interfaceZeros) index) ≡ false
-        → false ≡ every (interfaceSound layout itinerary stationLimit) (chain layout itinerary tableLimit first)
+        → false ≡ every (interfaceSound layout itinerary stations) (chainWithin layout itinerary tableLimit first)
     merged-unsound e = merged-no (rw e)
 
     -- the station that the index was skipped to is it
     pub merged-found : (ltb 0 stationsLeft && eqb station index) ≡ true
-        → false ≡ every (interfaceSound layout itinerary stationLimit) (chain layout itinerary tableLimit first)
+        → false ≡ every (interfaceSound layout itinerary stations) (chainWithin layout itinerary tableLimit first)
     unfolding every
     merged-found e =
         let held = each-of (ltb 0 stationsLeft) (eqb station index) e in
@@ -160,38 +162,39 @@ module _ {layout : Layout} {itinerary : List ℕ} {stationLimit tableLimit first
     pub merged-on : {next : ℕ} → (0 < stationsLeft → (station ≡ 0 → ⊥) → index ≤ station)
         → (nextSound layout itinerary index && zerosSound layout itinerary (layout .interfaceZeros) index) ≡ true
         → (ltb 0 stationsLeft && eqb station index) ≡ false → next ≡ nextOf layout itinerary index
-        → Merged layout itinerary stationLimit tableLimit first stationsLeft station (left - 1) next
+        → Merged layout itinerary stations tableLimit first stationsLeft station (left - 1) next
     unfolding every
     merged-on {next} reached e n q =
         let none = none-here layout itinerary stationsLeft station index reached (merged .rises) here n in
         record { rest = merged .rest ∙ rw (chain-on layout itinerary left index next more here q, e, none); rises = merged .rises }
 
   pub merged-skip : {stationsLeft′ station′ : ℕ} → (index ≡ 0 → ⊥)
-      → chain layout itinerary stationsLeft′ station′ ≡ dropBelow index (chain layout itinerary stationsLeft station)
-      → Merged layout itinerary stationLimit tableLimit first stationsLeft′ station′ left index
+      → chainWithin layout itinerary stationsLeft′ station′ ≡ dropBelow index (chainWithin layout itinerary stationsLeft station)
+      → Merged layout itinerary stations tableLimit first stationsLeft′ station′ left index
   merged-skip here e =
       record {
-        rest = merged .rest ∙ rw e (leave-out layout itinerary (chain layout itinerary stationsLeft station) left index here);
-        rises = rw e (every-dropped (nextSound layout itinerary) index (chain layout itinerary stationsLeft station) (merged .rises));
+        rest = merged .rest ∙ rw e (leave-out layout itinerary (chainWithin layout itinerary stationsLeft station) left index here);
+        rises = rw e (every-dropped (nextSound layout itinerary) index (chainWithin layout itinerary stationsLeft station) (merged .rises));
       }
 
 -- ---- the loop that skips
 
 pub record Skipped (layout : Layout) (itinerary : List ℕ) (bound limit first left station : ℕ) : Type 0 where
-  pub rest : dropBelow bound (chain layout itinerary limit first) ≡ dropBelow bound (chain layout itinerary left station)
+  pub rest : dropBelow bound (chainWithin layout itinerary limit first) ≡ dropBelow bound (chainWithin layout itinerary left station)
 
 module _ {layout : Layout} {itinerary : List ℕ} {bound limit first left station : ℕ}
     (skipped : Skipped layout itinerary bound limit first left station) where
-  pub skipped-end : station ≡ 0 → chain layout itinerary left station ≡ dropBelow bound (chain layout itinerary limit first)
+  pub skipped-end : station ≡ 0 → chainWithin layout itinerary left station ≡ dropBelow bound (chainWithin layout itinerary limit first)
   unfolding dropBelow
   skipped-end e = sym (skipped .rest ∙ rw (chain-end layout itinerary left station e))
 
-  pub skipped-out : left ≡ 0 → chain layout itinerary left station ≡ dropBelow bound (chain layout itinerary limit first)
+  pub skipped-out : left ≡ 0 → chainWithin layout itinerary left station ≡ dropBelow bound (chainWithin layout itinerary limit first)
   unfolding dropBelow
   skipped-out e = sym (skipped .rest ∙ rw (chain-out layout itinerary left station e))
 
   module _ (more : 0 < left) (here : station ≡ 0 → ⊥) where
-    pub skipped-here : bound ≤ station → chain layout itinerary left station ≡ dropBelow bound (chain layout itinerary limit first)
+    pub skipped-here : bound ≤ station
+        → chainWithin layout itinerary left station ≡ dropBelow bound (chainWithin layout itinerary limit first)
     unfolding dropBelow
     skipped-here h = sym (skipped .rest ∙ rw (chain-on layout itinerary left station _ more here refl, le-ltb station bound h))
 
@@ -203,13 +206,12 @@ module _ {layout : Layout} {itinerary : List ℕ} {bound limit first left statio
 
 -- ---- stations whose nexts are not sound are not sound
 
-pub nexts-unsound : (layout : Layout) (itinerary : List ℕ) (stationLimit tableLimit : ℕ) (stations : List ℕ)
-    → every (nextSound layout itinerary) stations ≡ false → false ≡ every (stationSound layout itinerary stationLimit tableLimit) stations
-nexts-unsound layout itinerary stationLimit tableLimit stations e =
-    go (every (stationSound layout itinerary stationLimit tableLimit) stations) refl
+pub nexts-unsound : (layout : Layout) (itinerary stations : List ℕ) (table : ℕ → List ℕ)
+    → every (nextSound layout itinerary) stations ≡ false → false ≡ every (stationSound layout itinerary stations table) stations
+nexts-unsound layout itinerary stations table e = go (every (stationSound layout itinerary stations table) stations) refl
   where
-    go : (b : Bool) → every (stationSound layout itinerary stationLimit tableLimit) stations ≡ b → false ≡ b
+    go : (b : Bool) → every (stationSound layout itinerary stations table) stations ≡ b → false ≡ b
     go false d = refl
     go true d =
-        sym e ∙ every-implied (stationSound layout itinerary stationLimit tableLimit) (nextSound layout itinerary) stations
-        (station-next layout itinerary stationLimit tableLimit) d
+        sym e ∙ every-implied (stationSound layout itinerary stations table) (nextSound layout itinerary) stations
+        (station-next layout itinerary stations table) d

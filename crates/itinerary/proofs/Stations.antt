@@ -5,13 +5,14 @@ use mathlib.Core.Bool.{Bool, true, false, cond, not, _&&_}
 use mathlib.Core.List.{List, [], _∷_, map}
 use Prim.Native.Nat.{ℕ, zero, suc, _+_, _-_, _<_}
 use native.Mathlib.Omega.{arith}
-use borrow.Author.Tests.{eqb-true, eq-eqb, ne-eqb}
+use borrow.Author.Tests.{eqb-true, eqb-false, eq-eqb, ne-eqb}
 use lib.Dec.{eqb}
 use lib.ListN.{length, getD, length-map}
 use Rattle.interface_table.specs.Table.{tableSound}
 use Rattle.records.specs.Layout.{Layout}
-use Rattle.records.specs.Records.{every, nextOf, arrivalOf, firstStation, chain}
-use Rattle.itinerary.specs.Itinerary.{Station, stationRecords, stationWithin, stationsWithin, tablesSound, arrivalsFit}
+use Rattle.records.specs.Records.{every, nextOf, arrivalOf, firstStation, chainWithin}
+use Rattle.itinerary.specs.Itinerary.{Station, stationWith, stationsOf, tablesSound, arrivalsFit}
+use Rattle.itinerary.specs.Inner.{stationsWithin, tableRecordsWithin}
 use Rattle.records.proofs.Every.{every-map}
 use Rattle.records.proofs.Walks.{chain-end, chain-on}
 
@@ -22,31 +23,35 @@ getD-map f (x ∷ xs) zero none h = refl
 getD-map f (x ∷ xs) (suc place) none h = getD-map f xs place none (omega arith)
 
 module _ (layout : Layout) (itinerary : List ℕ) where
-  abbrev pub hasSoundTable : ℕ → ℕ → Bool
-  hasSoundTable tableLimit station =
-      tableSound (stationWithin layout itinerary tableLimit station .ids) (stationWithin layout itinerary tableLimit station .states)
+  abbrev pub hasSoundTable : (ℕ → List ℕ) → ℕ → Bool
+  hasSoundTable table station =
+      tableSound (stationWith layout itinerary table station .ids) (stationWith layout itinerary table station .states)
 
-  module _ (stationLimit tableLimit : ℕ) where
-    pub tables-by-records : tablesSound (stationsWithin layout itinerary stationLimit tableLimit)
-        ≡ every (hasSoundTable tableLimit) (stationRecords layout itinerary stationLimit)
-    unfolding tablesSound stationsWithin
-    tables-by-records = every-map _ (stationWithin layout itinerary tableLimit) (stationRecords layout itinerary stationLimit)
+  module _ (stations : List ℕ) (table : ℕ → List ℕ) where
+    pub tables-by-records : tablesSound (stationsOf layout itinerary stations table) ≡ every (hasSoundTable table) stations
+    unfolding tablesSound stationsOf
+    tables-by-records = every-map _ (stationWith layout itinerary table) stations
 
-    pub count-by-records : length (stationsWithin layout itinerary stationLimit tableLimit)
-        ≡ length (stationRecords layout itinerary stationLimit)
-    unfolding stationsWithin
-    count-by-records = length-map (stationRecords layout itinerary stationLimit) (stationWithin layout itinerary tableLimit)
+    pub count-by-records : length (stationsOf layout itinerary stations table) ≡ length stations
+    unfolding stationsOf
+    count-by-records = length-map stations (stationWith layout itinerary table)
+
+    -- a station is read from its record
+    pub station-from-record : (place : ℕ) (none : Station) → place < length stations
+        → getD (stationsOf layout itinerary stations table) place none ≡ stationWith layout itinerary table (getD stations place 0)
+    unfolding stationsOf
+    station-from-record place none h = getD-map (stationWith layout itinerary table) stations place none h
 
   module _ (later tableLimit : ℕ) {first : ℕ} (e : first ≡ firstStation layout itinerary) where
     pub none-arrives : first ≡ 0 → true ≡ arrivalsFit (stationsWithin layout itinerary (later + 1) tableLimit)
-    unfolding stationsWithin arrivalsFit
+    unfolding stationsOf arrivalsFit
     none-arrives z = rw (← e, chain-end layout itinerary (later + 1) first z)
 
     module _ (here : first ≡ 0 → ⊥) {arrival : ℕ} (d : arrival ≡ arrivalOf layout itinerary first) where
       by-records : arrivalsFit (stationsWithin layout itinerary (later + 1) tableLimit)
           ≡ (eqb arrival 0 && every (λ station. not (eqb (arrivalOf layout itinerary station) 0))
-          (chain layout itinerary later (nextOf layout itinerary first)))
-      unfolding stationsWithin stationWithin arrivalsFit
+          (chainWithin layout itinerary later (nextOf layout itinerary first)))
+      unfolding stationsOf stationWith arrivalsFit
       by-records =
           let rest : later + 1 - 1 ≡ later = omega arith in
           rw (
@@ -54,25 +59,26 @@ module _ (layout : Layout) (itinerary : List ℕ) where
             ← e,
             chain-on layout itinerary (later + 1) first _ (omega arith) here refl,
             rest,
-            every-map (λ station. not (eqb (station .arrival) 0)) (stationWithin layout itinerary tableLimit)
-                (chain layout itinerary later (nextOf layout itinerary first)),
+            every-map (λ station. not (eqb (station .arrival) 0))
+                (stationWith layout itinerary (tableRecordsWithin layout itinerary tableLimit))
+                (chainWithin layout itinerary later (nextOf layout itinerary first)),
           )
 
       pub first-arrives : (arrival ≡ 0 → ⊥) → false ≡ arrivalsFit (stationsWithin layout itinerary (later + 1) tableLimit)
       first-arrives n = sym (by-records ∙ rw (ne-eqb _ 0 n))
 
       pub later-arrive : arrival ≡ 0 → {next : ℕ} → next ≡ nextOf layout itinerary first → {answer : Bool}
-          → answer ≡ every (λ station. not (eqb (arrivalOf layout itinerary station) 0)) (chain layout itinerary later next)
+          → answer ≡ every (λ station. not (eqb (arrivalOf layout itinerary station) 0)) (chainWithin layout itinerary later next)
           → answer ≡ arrivalsFit (stationsWithin layout itinerary (later + 1) tableLimit)
       later-arrive z q a = a ∙ sym (by-records ∙ rw (eq-eqb _ 0 z, q))
 
   -- ---- a station by its place
 
   abbrev after : ℕ → ℕ → List ℕ
-  after limit index = chain layout itinerary limit (nextOf layout itinerary index)
+  after limit index = chainWithin layout itinerary limit (nextOf layout itinerary index)
 
-  first-record : (limit index : ℕ) → 0 < limit → getD (chain layout itinerary limit index) 0 0 ≡ index
-  unfolding chain
+  first-record : (limit index : ℕ) → 0 < limit → getD (chainWithin layout itinerary limit index) 0 0 ≡ index
+  unfolding chainWithin
   first-record zero index h = absurd (omega arith)
   first-record (suc limit) index h = go (eqb index 0) refl
     where
@@ -81,10 +87,10 @@ module _ (layout : Layout) (itinerary : List ℕ) where
       go false e = refl
 
   -- the next station is the next record; behind the last one is 0
-  pub next-record : (limit index place : ℕ) → place < length (chain layout itinerary limit index) → suc place < limit
-      → getD (chain layout itinerary limit index) (suc place) 0
-      ≡ nextOf layout itinerary (getD (chain layout itinerary limit index) place 0)
-  unfolding chain
+  pub next-record : (limit index place : ℕ) → place < length (chainWithin layout itinerary limit index) → suc place < limit
+      → getD (chainWithin layout itinerary limit index) (suc place) 0
+      ≡ nextOf layout itinerary (getD (chainWithin layout itinerary limit index) place 0)
+  unfolding chainWithin
   next-record zero index place h k = absurd (omega arith)
   next-record (suc limit) index place h k = go (eqb index 0) place (next-record limit (nextOf layout itinerary index)) h k
     where
@@ -98,11 +104,16 @@ module _ (layout : Layout) (itinerary : List ℕ) where
       go false zero rest h k = first-record limit (nextOf layout itinerary index) (omega arith)
       go false (suc place) rest h k = rest place (omega arith) (omega arith)
 
-  -- a station is read from its record
-  pub station-from-record : (stationLimit tableLimit place : ℕ) (none : Station)
-      → place < length (stationRecords layout itinerary stationLimit)
-      → getD (stationsWithin layout itinerary stationLimit tableLimit) place none
-      ≡ stationWithin layout itinerary tableLimit (getD (stationRecords layout itinerary stationLimit) place 0)
-  unfolding stationsWithin
-  station-from-record stationLimit tableLimit place none h =
-      getD-map (stationWithin layout itinerary tableLimit) (stationRecords layout itinerary stationLimit) place none h
+  -- no record of a chain is record 0
+  pub record-there : (limit index place : ℕ) → place < length (chainWithin layout itinerary limit index)
+      → getD (chainWithin layout itinerary limit index) place 0 ≡ 0 → ⊥
+  unfolding chainWithin
+  record-there zero index place h e = omega arith
+  record-there (suc limit) index place h e = go (eqb index 0) refl place (record-there limit (nextOf layout itinerary index)) h e
+    where
+      go : (b : Bool) → eqb index 0 ≡ b → (place : ℕ)
+          → ((place : ℕ) → place < length (after limit index) → getD (after limit index) place 0 ≡ 0 → ⊥)
+          → place < length (cond b [] (index ∷ after limit index)) → getD (cond b [] (index ∷ after limit index)) place 0 ≡ 0 → ⊥
+      go true d place rest h e = omega arith
+      go false d zero rest h e = eqb-false index 0 d e
+      go false d (suc place) rest h e = rest place (omega arith) e

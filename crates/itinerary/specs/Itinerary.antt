@@ -10,14 +10,14 @@ use Rattle.interface_table.specs.Table.{tableSound}
 use Rattle.records.specs.Layout.{Layout}
 use Rattle.records.specs.Records.{every, recordCount, bytesOf, nextOf, arrivalOf, firstInterfaceOf, keyOf, interfaceNumberOf, interfaceStateOf, firstStation, chain}
 
--- The limits below say how far chains are followed: how many stations, and how many records of each station's table. The code follows
--- them only so far; those of the whole itinerary are at the end of this file.
-module _ (layout : Layout) (itinerary : List ℕ) where
-  abbrev pub stationRecords : ℕ → List ℕ
-  stationRecords stationLimit = chain layout itinerary stationLimit (firstStation layout itinerary)
+-- ---- the records reached: the stations', and those of a station's table
 
-  abbrev pub tableRecords : ℕ → ℕ → List ℕ
-  tableRecords tableLimit station = chain layout itinerary tableLimit (firstInterfaceOf layout itinerary station)
+module _ (layout : Layout) (itinerary : List ℕ) where
+  abbrev pub stationRecords : List ℕ
+  stationRecords = chain layout itinerary (firstStation layout itinerary)
+
+  abbrev pub tableRecords : ℕ → List ℕ
+  tableRecords station = chain layout itinerary (firstInterfaceOf layout itinerary station)
 
   -- ---- soundness: what a quoted text names is unsound
 
@@ -44,27 +44,32 @@ module _ (layout : Layout) (itinerary : List ℕ) where
   unfoldable pub zerosSound : List (ℕ × ℕ) → ℕ → Bool
   zerosSound ranges index = every (λ range. areZero index (range .0) (range .1)) ranges
 
-  -- 'a record reached both as station and as interface'
-  unfoldable pub isNoStation : ℕ → ℕ → Bool
-  isNoStation stationLimit index = every (λ station. not (eqb station index)) (stationRecords stationLimit)
+  -- From here on `stations` are the stations' records, and `table` gives the records of a station's table: those of the whole chains
+  -- in `itinerarySound`.
 
-  unfoldable pub interfaceSound : ℕ → ℕ → Bool
-  interfaceSound stationLimit index = nextSound index && zerosSound (layout .interfaceZeros) index && isNoStation stationLimit index
+  -- 'a record reached both as station and as interface'
+  unfoldable pub isNoStation : List ℕ → ℕ → Bool
+  isNoStation stations index = every (λ station. not (eqb station index)) stations
+
+  unfoldable pub interfaceSound : List ℕ → ℕ → Bool
+  interfaceSound stations index = nextSound index && zerosSound (layout .interfaceZeros) index && isNoStation stations index
 
   -- its first interface record may stand before it
-  unfoldable pub stationSound : ℕ → ℕ → ℕ → Bool
-  stationSound stationLimit tableLimit index =
+  unfoldable pub stationSound : List ℕ → (ℕ → List ℕ) → ℕ → Bool
+  stationSound stations table index =
       nextSound index && zerosSound (layout .stationZeros) index && indexSound (firstInterfaceOf layout itinerary index)
-      && every (interfaceSound stationLimit) (tableRecords tableLimit index)
+      && every (interfaceSound stations) (table index)
 
   -- '(record 0 from byte 2 on included)'
   unfoldable pub headSound : Bool
   headSound = zerosSound (layout .headZeros) 0 && indexSound (firstStation layout itinerary)
 
   -- 'unreached records are not looked at'; with no station at all it may be sound
-  unfoldable pub soundWithin : ℕ → ℕ → Bool
-  soundWithin stationLimit tableLimit =
-      sizeSound && headSound && every (stationSound stationLimit tableLimit) (stationRecords stationLimit)
+  unfoldable pub soundOf : List ℕ → (ℕ → List ℕ) → Bool
+  soundOf stations table = sizeSound && headSound && every (stationSound stations table) stations
+
+  abbrev pub itinerarySound : Bool
+  itinerarySound = soundOf stationRecords tableRecords
 
 -- ---- the stations, in chain order
 
@@ -75,18 +80,24 @@ pub record Station : Type 0 where
   pub states : List ℕ
 
 module _ (layout : Layout) (itinerary : List ℕ) where
-  unfoldable pub stationWithin : ℕ → ℕ → Station
-  stationWithin tableLimit index =
+  -- the station of a record, with the records of its table
+  unfoldable pub stationWith : (ℕ → List ℕ) → ℕ → Station
+  stationWith table index =
       record {
         arrival = arrivalOf layout itinerary index;
         key = keyOf layout itinerary index;
-        ids = map (interfaceNumberOf layout itinerary) (tableRecords layout itinerary tableLimit index);
-        states = map (interfaceStateOf layout itinerary) (tableRecords layout itinerary tableLimit index);
+        ids = map (interfaceNumberOf layout itinerary) (table index);
+        states = map (interfaceStateOf layout itinerary) (table index);
       }
 
-  unfoldable pub stationsWithin : ℕ → ℕ → List Station
-  stationsWithin stationLimit tableLimit =
-      map (stationWithin tableLimit) (stationRecords layout itinerary stationLimit)
+  unfoldable pub stationsOf : List ℕ → (ℕ → List ℕ) → List Station
+  stationsOf stations table = map (stationWith table) stations
+
+  abbrev pub stationAt : ℕ → Station
+  stationAt index = stationWith (tableRecords layout itinerary) index
+
+  abbrev pub stations : List Station
+  stations = stationsOf (stationRecords layout itinerary) (tableRecords layout itinerary)
 
 -- ---- question 23, but for the clock readings
 
@@ -100,25 +111,10 @@ arrivalsFit [] = true
 arrivalsFit (first ∷ later) = eqb (first .arrival) 0 && every (λ station. not (eqb (station .arrival) 0)) later
 
 module _ (layout : Layout) (itinerary : List ℕ) where
-  -- 'Itinerary sound, each table too, station count = ..' the one wanted, 'first arrival 0, later ones not'
-  unfoldable pub fitsWithin : ℕ → ℕ → ℕ → Bool
-  fitsWithin stationLimit tableLimit wanted =
-      soundWithin layout itinerary stationLimit tableLimit
-      && eqb (length (stationsWithin layout itinerary stationLimit tableLimit)) wanted
-      && arrivalsFit (stationsWithin layout itinerary stationLimit tableLimit)
-      && tablesSound (stationsWithin layout itinerary stationLimit tableLimit)
+  -- 'Itinerary sound, each table too, .. first arrival 0, later ones not': the plan itself, whatever the path
+  unfoldable pub planFits : Bool
+  planFits = itinerarySound layout itinerary && tablesSound (stations layout itinerary) && arrivalsFit (stations layout itinerary)
 
-  -- ---- all of it: a sound chain goes up and so has fewer records than there are (proofs/Bound.antt)
-
-  -- 'Itinerary sound': the first part of `itineraryFits`
-  abbrev pub itinerarySound : Bool
-  itinerarySound = soundWithin layout itinerary (recordCount layout itinerary) (recordCount layout itinerary)
-
-  abbrev pub stationAt : ℕ → Station
-  stationAt index = stationWithin layout itinerary (recordCount layout itinerary) index
-
-  abbrev pub stations : List Station
-  stations = stationsWithin layout itinerary (recordCount layout itinerary) (recordCount layout itinerary)
-
-  abbrev pub itineraryFits : ℕ → Bool
-  itineraryFits wanted = fitsWithin (recordCount layout itinerary) (recordCount layout itinerary) wanted
+  -- '.. station count = ..' the one wanted
+  unfoldable pub itineraryFits : ℕ → Bool
+  itineraryFits wanted = planFits && eqb (length (stations layout itinerary)) wanted

@@ -1,1 +1,2 @@
 pub mod Itinerary
+pub mod Inner

@@ -1,44 +1,44 @@
 // Whether an itinerary is sound. Chains are followed only as far as a limit goes, so that the work is bounded whatever the bytes.
 //
 // Questions are joined by `&`: a plan is nearly always sound, and a loop stops at its first bad record anyway.
+use records::form::Form;
 use records::layout::HeadLayout;
 use records::layout::InterfaceRecordLayout;
-use records::layout::RecordLayout;
 use records::layout::StationLayout;
 ghost use mathlib.Core.Path.{_≡_};
 ghost use mathlib.Core.Bool.{true};
 ghost use Prim.Native.Nat.{_<_, _≤_};
-ghost use Rattle.records.specs.Layout.{narrow};
-ghost use Rattle.records.specs.Records.{every, chain, dropBelow};
-ghost use Rattle.itinerary.specs.Itinerary.{stationRecords, tableRecords, sizeSound, indexSound, nextSound, areZero};
-ghost use Rattle.itinerary.specs.Itinerary.{zerosSound, interfaceSound, stationSound, headSound, soundWithin};
+ghost use Rattle.records.specs.Layout.{layoutOf};
+ghost use Rattle.records.specs.Records.{every, chainWithin};
+ghost use Rattle.records.specs.Inner.{dropBelow};
+ghost use Rattle.itinerary.specs.Itinerary.{sizeSound, indexSound, nextSound, areZero, zerosSound};
+ghost use Rattle.itinerary.specs.Itinerary.{interfaceSound, stationSound, headSound};
+ghost use Rattle.itinerary.specs.Inner.{stationRecordsWithin, tableRecordsWithin, soundWithin};
 
-fn is_size_sound(itinerary: &[u8]) -> bool
-    ensures { λ r. ⌜ r ≡ sizeSound narrow (now (itinerary .entry)) ⌝ }
+fn is_size_sound(form: Form, itinerary: &[u8]) -> bool
+    ensures { λ r. ⌜ r ≡ sizeSound (layoutOf form) (now (itinerary .entry)) ⌝ }
 {
-    let count = records::record_count(itinerary);
-    (itinerary.len() % RecordLayout::SIZE_BYTES == 0)
-        & (1 <= count)
-        & (count <= RecordLayout::MAX_RECORDS)
+    let count = records::record_count(form, itinerary);
+    (itinerary.len() % form.record_bytes() == 0) & (1 <= count) & (count <= form.max_records())
 }
 
-fn is_index_sound(itinerary: &[u8], index: u32) -> bool
-    ensures { λ r. ⌜ r ≡ indexSound narrow (now (itinerary .entry)) index ⌝ }
+fn is_index_sound(form: Form, itinerary: &[u8], index: u32) -> bool
+    ensures { λ r. ⌜ r ≡ indexSound (layoutOf form) (now (itinerary .entry)) index ⌝ }
 {
-    (index as usize) < records::record_count(itinerary)
+    (index as usize) < records::record_count(form, itinerary)
 }
 
-fn is_next_sound(itinerary: &[u8], index: u32) -> bool
-    ensures { λ r. ⌜ r ≡ nextSound narrow (now (itinerary .entry)) index ⌝ }
+fn is_next_sound(form: Form, itinerary: &[u8], index: u32) -> bool
+    ensures { λ r. ⌜ r ≡ nextSound (layoutOf form) (now (itinerary .entry)) index ⌝ }
 {
-    let next = records::next(itinerary, index);
-    (next == 0) | ((index < next) & is_index_sound(itinerary, next))
+    let next = records::next(form, itinerary, index);
+    (next == 0) | ((index < next) & is_index_sound(form, itinerary, next))
 }
 
-fn are_zero(itinerary: &[u8], index: u32, field: u8, count: u8) -> bool
-    ensures { λ r. ⌜ r ≡ areZero narrow (now (itinerary .entry)) index field count ⌝ }
+fn are_zero(form: Form, itinerary: &[u8], index: u32, field: u8, count: u8) -> bool
+    ensures { λ r. ⌜ r ≡ areZero (layoutOf form) (now (itinerary .entry)) index field count ⌝ }
 {
-    let at = RecordLayout::offset(index, field);
+    let at = form.offset(index, field);
     let mut i: u8 = 0;
     while i < count {
         if octets::byte_at(itinerary, at + (i as usize)) != 0 {
@@ -51,15 +51,18 @@ fn are_zero(itinerary: &[u8], index: u32, field: u8, count: u8) -> bool
 
 // ---- an interface record
 
-fn are_interface_zeros_sound(itinerary: &[u8], index: u32) -> bool
-    ensures { λ r. ⌜ r ≡ zerosSound narrow (now (itinerary .entry)) (narrow .interfaceZeros) index ⌝ }
+fn are_interface_zeros_sound(form: Form, itinerary: &[u8], index: u32) -> bool
+    ensures { λ r. ⌜ r ≡ zerosSound (layoutOf form) (now (itinerary .entry)) (layoutOf form .interfaceZeros) index ⌝ }
 {
-    are_zero(
-        itinerary,
-        index,
-        InterfaceRecordLayout::ZEROS,
-        InterfaceRecordLayout::ZEROS_BYTES,
-    )
+    match form {
+        Form::Narrow => are_zero(
+            form,
+            itinerary,
+            index,
+            InterfaceRecordLayout::ZEROS,
+            InterfaceRecordLayout::ZEROS_BYTES,
+        ),
+    }
 }
 
 // A place in the chain of stations: the record, and how many may still be looked at.
@@ -69,9 +72,9 @@ struct StationPlace {
 }
 
 // The first station from a place on whose record is not below the index.
-fn skip_below(itinerary: &[u8], place: StationPlace, index: u32) -> StationPlace
-    ensures rest { λ r. ⌜ chain narrow (now (itinerary .entry)) (r .left) (r .station)
-        ≡ dropBelow index (chain narrow (now (itinerary .entry)) (place .left) (place .station)) ⌝ }
+fn skip_below(form: Form, itinerary: &[u8], place: StationPlace, index: u32) -> StationPlace
+    ensures rest { λ r. ⌜ chainWithin (layoutOf form) (now (itinerary .entry)) (r .left) (r .station)
+        ≡ dropBelow index (chainWithin (layoutOf form) (now (itinerary .entry)) (place .left) (place .station)) ⌝ }
     ensures reached { λ r. ⌜ (0 < r .left → (r .station ≡ 0 → ⊥) → index ≤ r .station) ⌝ }
 {
     let mut station = place.station;
@@ -83,7 +86,7 @@ fn skip_below(itinerary: &[u8], place: StationPlace, index: u32) -> StationPlace
         if index <= station {
             return StationPlace { station, left };
         }
-        station = records::next(itinerary, station);
+        station = records::next(form, itinerary, station);
         left -= 1;
     }
     StationPlace { station, left }
@@ -91,34 +94,38 @@ fn skip_below(itinerary: &[u8], place: StationPlace, index: u32) -> StationPlace
 
 // Both chains go up, the stations' as required and the table's as asked, so one pass along both finds a record that is in both.
 fn are_interfaces_sound(
+    form: Form,
     itinerary: &[u8],
     station_limit: u32,
     table_limit: u32,
     station: u32,
 ) -> bool
-    requires { ⌜ every (nextSound narrow (now itinerary)) (stationRecords narrow (now itinerary) «station_limit») ≡ true ⌝ }
-    ensures { λ r. ⌜ r ≡ every (interfaceSound narrow (now (itinerary .entry)) «station_limit»)
-        (tableRecords narrow (now (itinerary .entry)) «table_limit» station) ⌝ }
+    requires { ⌜ every (nextSound (layoutOf form) (now itinerary))
+        (stationRecordsWithin (layoutOf form) (now itinerary) «station_limit») ≡ true ⌝ }
+    ensures { λ r. ⌜ r ≡ every (interfaceSound (layoutOf form) (now (itinerary .entry))
+        (stationRecordsWithin (layoutOf form) (now (itinerary .entry)) «station_limit»))
+        (tableRecordsWithin (layoutOf form) (now (itinerary .entry)) «table_limit» station) ⌝ }
 {
     let mut place = StationPlace {
-        station: records::next(itinerary, 0),
+        station: records::next(form, itinerary, 0),
         left: station_limit,
     };
-    let mut index = records::first_interface(itinerary, station);
+    let mut index = records::first_interface(form, itinerary, station);
     let mut left = table_limit;
     while 0 < left {
         if index == 0 {
             return true;
         }
-        if !(is_next_sound(itinerary, index) & are_interface_zeros_sound(itinerary, index)) {
+        if !(is_next_sound(form, itinerary, index)
+            & are_interface_zeros_sound(form, itinerary, index)) {
             return false;
         }
-        let reached = skip_below(itinerary, place, index);
+        let reached = skip_below(form, itinerary, place, index);
         if (0 < reached.left) & (reached.station == index) {
             return false;
         }
         place = reached;
-        index = records::next(itinerary, index);
+        index = records::next(form, itinerary, index);
         left -= 1;
     }
     true
@@ -126,69 +133,90 @@ fn are_interfaces_sound(
 
 // ---- a station
 
-fn are_station_zeros_sound(itinerary: &[u8], index: u32) -> bool
-    ensures { λ r. ⌜ r ≡ zerosSound narrow (now (itinerary .entry)) (narrow .stationZeros) index ⌝ }
+fn are_station_zeros_sound(form: Form, itinerary: &[u8], index: u32) -> bool
+    ensures { λ r. ⌜ r ≡ zerosSound (layoutOf form) (now (itinerary .entry)) (layoutOf form .stationZeros) index ⌝ }
 {
-    are_zero(
-        itinerary,
-        index,
-        StationLayout::ZEROS,
-        StationLayout::ZEROS_BYTES,
-    )
-        & are_zero(
+    match form {
+        Form::Narrow => {
+            are_zero(
+                form,
+                itinerary,
+                index,
+                StationLayout::ZEROS,
+                StationLayout::ZEROS_BYTES,
+            )
+                & are_zero(
+                    form,
+                    itinerary,
+                    index,
+                    StationLayout::LAST_ZEROS,
+                    StationLayout::LAST_ZEROS_BYTES,
+                )
+        }
+    }
+}
+
+fn is_station_sound(
+    form: Form,
+    itinerary: &[u8],
+    station_limit: u32,
+    table_limit: u32,
+    index: u32,
+) -> bool
+    requires { ⌜ every (nextSound (layoutOf form) (now itinerary))
+        (stationRecordsWithin (layoutOf form) (now itinerary) «station_limit») ≡ true ⌝ }
+    ensures { λ r. ⌜ r ≡ stationSound (layoutOf form) (now (itinerary .entry))
+        (stationRecordsWithin (layoutOf form) (now (itinerary .entry)) «station_limit»)
+        (tableRecordsWithin (layoutOf form) (now (itinerary .entry)) «table_limit») index ⌝ }
+{
+    is_next_sound(form, itinerary, index)
+        & are_station_zeros_sound(form, itinerary, index)
+        & is_index_sound(
+            form,
             itinerary,
-            index,
-            StationLayout::LAST_ZEROS,
-            StationLayout::LAST_ZEROS_BYTES,
+            records::first_interface(form, itinerary, index),
         )
+        & are_interfaces_sound(form, itinerary, station_limit, table_limit, index)
 }
 
-fn is_station_sound(itinerary: &[u8], station_limit: u32, table_limit: u32, index: u32) -> bool
-    requires { ⌜ every (nextSound narrow (now itinerary)) (stationRecords narrow (now itinerary) «station_limit») ≡ true ⌝ }
-    ensures { λ r. ⌜ r ≡ stationSound narrow (now (itinerary .entry)) «station_limit» «table_limit» index ⌝ }
+fn are_station_nexts_sound(form: Form, itinerary: &[u8], station_limit: u32) -> bool
+    ensures { λ r. ⌜ r ≡ every (nextSound (layoutOf form) (now (itinerary .entry)))
+        (stationRecordsWithin (layoutOf form) (now (itinerary .entry)) «station_limit») ⌝ }
 {
-    is_next_sound(itinerary, index)
-        & are_station_zeros_sound(itinerary, index)
-        & is_index_sound(itinerary, records::first_interface(itinerary, index))
-        & are_interfaces_sound(itinerary, station_limit, table_limit, index)
-}
-
-fn are_station_nexts_sound(itinerary: &[u8], station_limit: u32) -> bool
-    ensures { λ r. ⌜ r ≡ every (nextSound narrow (now (itinerary .entry)))
-        (stationRecords narrow (now (itinerary .entry)) «station_limit») ⌝ }
-{
-    let mut station = records::next(itinerary, 0);
+    let mut station = records::next(form, itinerary, 0);
     let mut left = station_limit;
     while 0 < left {
         if station == 0 {
             return true;
         }
-        if !is_next_sound(itinerary, station) {
+        if !is_next_sound(form, itinerary, station) {
             return false;
         }
-        station = records::next(itinerary, station);
+        station = records::next(form, itinerary, station);
         left -= 1;
     }
     true
 }
 
-fn are_stations_sound(itinerary: &[u8], station_limit: u32, table_limit: u32) -> bool
-    ensures { λ r. ⌜ r ≡ every (stationSound narrow (now (itinerary .entry)) «station_limit» «table_limit»)
-        (stationRecords narrow (now (itinerary .entry)) «station_limit») ⌝ }
+fn are_stations_sound(form: Form, itinerary: &[u8], station_limit: u32, table_limit: u32) -> bool
+    ensures { λ r. ⌜ r ≡ every (stationSound (layoutOf form) (now (itinerary .entry))
+        (stationRecordsWithin (layoutOf form) (now (itinerary .entry)) «station_limit»)
+        (tableRecordsWithin (layoutOf form) (now (itinerary .entry)) «table_limit»))
+        (stationRecordsWithin (layoutOf form) (now (itinerary .entry)) «station_limit») ⌝ }
 {
-    if !are_station_nexts_sound(itinerary, station_limit) {
+    if !are_station_nexts_sound(form, itinerary, station_limit) {
         return false;
     }
-    let mut station = records::next(itinerary, 0);
+    let mut station = records::next(form, itinerary, 0);
     let mut left = station_limit;
     while 0 < left {
         if station == 0 {
             return true;
         }
-        if !is_station_sound(itinerary, station_limit, table_limit, station) {
+        if !is_station_sound(form, itinerary, station_limit, table_limit, station) {
             return false;
         }
-        station = records::next(itinerary, station);
+        station = records::next(form, itinerary, station);
         left -= 1;
     }
     true
@@ -196,17 +224,31 @@ fn are_stations_sound(itinerary: &[u8], station_limit: u32, table_limit: u32) ->
 
 // ---- the whole
 
-fn is_head_sound(itinerary: &[u8]) -> bool
-    ensures { λ r. ⌜ r ≡ headSound narrow (now (itinerary .entry)) ⌝ }
+fn are_head_zeros_sound(form: Form, itinerary: &[u8]) -> bool
+    ensures { λ r. ⌜ r ≡ zerosSound (layoutOf form) (now (itinerary .entry)) (layoutOf form .headZeros) 0 ⌝ }
 {
-    are_zero(itinerary, 0, HeadLayout::ZEROS, HeadLayout::ZEROS_BYTES)
-        & is_index_sound(itinerary, records::next(itinerary, 0))
+    match form {
+        Form::Narrow => are_zero(
+            form,
+            itinerary,
+            0,
+            HeadLayout::ZEROS,
+            HeadLayout::ZEROS_BYTES,
+        ),
+    }
 }
 
-pub fn is_sound_within(itinerary: &[u8], station_limit: u32, table_limit: u32) -> bool
-    ensures { λ r. ⌜ r ≡ soundWithin narrow (now (itinerary .entry)) «station_limit» «table_limit» ⌝ }
+fn is_head_sound(form: Form, itinerary: &[u8]) -> bool
+    ensures { λ r. ⌜ r ≡ headSound (layoutOf form) (now (itinerary .entry)) ⌝ }
 {
-    is_size_sound(itinerary)
-        & is_head_sound(itinerary)
-        & are_stations_sound(itinerary, station_limit, table_limit)
+    are_head_zeros_sound(form, itinerary)
+        & is_index_sound(form, itinerary, records::next(form, itinerary, 0))
+}
+
+pub fn is_sound_within(form: Form, itinerary: &[u8], station_limit: u32, table_limit: u32) -> bool
+    ensures { λ r. ⌜ r ≡ soundWithin (layoutOf form) (now (itinerary .entry)) «station_limit» «table_limit» ⌝ }
+{
+    is_size_sound(form, itinerary)
+        & is_head_sound(form, itinerary)
+        & are_stations_sound(form, itinerary, station_limit, table_limit)
 }

@@ -9,7 +9,7 @@ use borrow.Author.Tests.{eqb-true, eqb-false, leb-true, not-true}
 use lib.Dec.{eqb, leb}
 use lib.ListN.{length, getD}
 use Rattle.questions.specs.Questions.{allYes}
-use Rattle.octets.proofs.Bools.{each-of-4, first-of, second-of}
+use Rattle.octets.proofs.Bools.{each-of, each-of-3, first-of, second-of}
 use Rattle.standard_path.specs.Meta.{currInf, currHf}
 use Rattle.fields.specs.Fields.{consIngressAlert, consEgressAlert}
 use Rattle.standard_path.specs.Header.{infos, hops, headerSize, hopField}
@@ -17,7 +17,7 @@ use Rattle.interface_table.specs.Table.{tableSound}
 use Rattle.edition.specs.declared.Edition.{Edition}
 use Rattle.edition.specs.Edition.{peeringPath}
 use Rattle.records.specs.Layout.{Layout}
-use Rattle.itinerary.specs.Itinerary.{Station, stations, itinerarySound, arrivalsFit, tablesSound, itineraryFits, fitsWithin}
+use Rattle.itinerary.specs.Itinerary.{Station, stations, itinerarySound, arrivalsFit, tablesSound, planFits, itineraryFits}
 use Rattle.records.proofs.Every.{every-at}
 use Rattle.journey.specs.Check.{noStation}
 use Rattle.journey.specs.Verdict.{stationCount, quiet, questions}
@@ -72,7 +72,7 @@ module _ (edition : Edition) (layout : Layout) (itinerary : List ℕ) (earliest 
   counts false many = omega (arith, infos-few path)
 
   pub asked : Asked edition path all-stations earliest latest
-  unfolding allYes fitsWithin tablesSound
+  unfolding allYes planFits itineraryFits tablesSound
   asked =
       let from-3 = second-of (leb 4 (length path)) _ e in
       let from-4 = second-of (leb (headerSize path) (length path)) _ from-3 in
@@ -81,9 +81,9 @@ module _ (edition : Edition) (layout : Layout) (itinerary : List ℕ) (earliest 
       let from-25 = second-of (eqb (currHf path) 0 && eqb (currInf path) 0) _ from-24 in
       let plan = first-of (itineraryFits layout itinerary (stationCount edition path) && leb earliest latest) _ from-23 in
       let place = first-of (eqb (currHf path) 0 && eqb (currInf path) 0) _ from-24 in
-      let held = each-of-4 (itinerarySound layout itinerary) (eqb (length all-stations) (stationCount edition path)) (arrivalsFit all-stations)
-      (tablesSound all-stations) (first-of (itineraryFits layout itinerary (stationCount edition path)) _ plan) in
-      let many : length all-stations ≡ stationCount edition path = eqb-true _ _ (held .1) in
+      let fits = each-of (planFits layout itinerary) _ (first-of (itineraryFits layout itinerary (stationCount edition path)) _ plan) in
+      let held = each-of-3 (itinerarySound layout itinerary) (tablesSound all-stations) (arrivalsFit all-stations) (fits .0) in
+      let many : length all-stations ≡ stationCount edition path = eqb-true _ _ (fits .1) in
       record {
         given = record {
           room = leb-true _ _ (first-of (leb (headerSize path) (length path)) _ from-3);
@@ -95,7 +95,7 @@ module _ (edition : Edition) (layout : Layout) (itinerary : List ℕ) (earliest 
           first = first-arrival all-stations (held .2);
           later = later-arrivals all-stations (held .2);
         };
-        sound = every-at (λ station. tableSound (station .ids) (station .states)) all-stations noStation (held .3);
+        sound = every-at (λ station. tableSound (station .ids) (station .states)) all-stations noStation (held .1);
         ordered = leb-true _ _ (second-of (itineraryFits layout itinerary (stationCount edition path)) _ plan);
         hf = eqb-true _ _ (first-of (eqb (currHf path) 0) _ place);
         inf = eqb-true _ _ (second-of (eqb (currHf path) 0) _ place);

@@ -1,4 +1,2 @@
-pub mod All
-pub mod Walked
 pub mod Stations
 pub mod Verdicts

@@ -5,48 +5,42 @@ use mathlib.Core.Bool.{Bool, true, false, cond, _&&_, false≢true}
 use mathlib.Core.List.{List, [], _∷_}
 use Prim.Native.Nat.{ℕ, zero, suc, _+_, _-_, _≤_, _<_}
 use native.Mathlib.Omega.{arith}
-use borrow.Author.Tests.{eqb-true}
+use borrow.Author.Tests.{eqb-true, ne-eqb}
 use lib.Dec.{eqb, leb}
 use lib.ListN.{length, getD}
-use Rattle.octets.proofs.Bools.{each-of-4}
+use Rattle.octets.proofs.Bools.{second-of}
 use Rattle.fields.specs.Fields.{timestamp}
 use Rattle.standard_path.specs.Header.{infos, hops, infoField}
 use Rattle.edition.specs.declared.Edition.{Edition}
 use Rattle.edition.specs.Edition.{peeringPath}
 use Rattle.records.specs.Layout.{Layout}
-use Rattle.records.specs.Records.{recordCount, nextOf, keyOf, firstStation, chain}
-use Rattle.itinerary.specs.Itinerary.{stationRecords, stationWithin, stationAt, stations, soundWithin, fitsWithin, itineraryFits}
-use Rattle.itinerary.proofs.Stations.{count-by-records, next-record, station-from-record}
-use Rattle.journey.specs.Check.{segmentFits, linkFits, jointFits, peeringHopOf, shared, startOf, countOf, hopOf, noStation, stationOf, segmentPasses, jointPasses}
-use Rattle.journey.proofs.Lengths.{Shape, all-long, station-among, start-enough, fit-shape}
+use Rattle.records.specs.Records.{recordCount, nextOf, firstStation, chainWithin, recordAfter}
+use Rattle.itinerary.specs.Itinerary.{stationRecords, tableRecords, stationAt, stations, planFits, itineraryFits}
+use Rattle.itinerary.proofs.Stations.{count-by-records, next-record, record-there, station-from-record}
+use Rattle.journey.specs.Check.{all, segmentFits, linkFits, jointFits, shared, startOf, countOf, hopOf, noStation, stationOf, segmentPasses, jointPasses}
+use Rattle.journey.proofs.Lengths.{Shape, at-most-three, all-long, station-among, start-enough, fit-shape}
 use Rattle.journey.proofs.Facts.{shared-linked}
 use Rattle.journey.proofs.LetThrough.{infos-few}
-use Rattle.journey_check.specs.Records.{recordAfter}
-use Rattle.journey_check.specs.Matched.{Matched}
-use Rattle.journey_check.proofs.All.{all-same}
+use Rattle.segment_check.specs.Segment.{segmentFitsFrom}
+use Rattle.segment_check.proofs.All.{all-same}
+use Rattle.journey_check.specs.Inner.{Matched}
 
 module _ (layout : Layout) (itinerary : List ℕ) where
   abbrev pub records : List ℕ
-  records = stationRecords layout itinerary (recordCount layout itinerary)
-
-  pub key-read : (index : ℕ) → keyOf layout itinerary index ≡ stationAt layout itinerary index .key
-  unfolding stationWithin
-  key-read index = refl
+  records = stationRecords layout itinerary
 
   -- 23 counts the stations
   pub fits-counted : (wanted : ℕ) → itineraryFits layout itinerary wanted ≡ true → length (stations layout itinerary) ≡ wanted
-  unfolding fitsWithin
-  fits-counted wanted e =
-      let many = recordCount layout itinerary in
-      eqb-true _ _ (each-of-4 (soundWithin layout itinerary many many) _ _ _ e .1)
+  unfolding itineraryFits
+  fits-counted wanted e = eqb-true _ _ (second-of (planFits layout itinerary) _ e)
 
-  chain-short : (limit index : ℕ) → length (chain layout itinerary limit index) ≤ limit
-  unfolding chain
+  chain-short : (limit index : ℕ) → length (chainWithin layout itinerary limit index) ≤ limit
+  unfolding chainWithin
   chain-short zero index = omega arith
   chain-short (suc limit) index = go (eqb index 0) (chain-short limit (nextOf layout itinerary index))
     where
-      go : (b : Bool) → length (chain layout itinerary limit (nextOf layout itinerary index)) ≤ limit
-          → length (cond b [] (index ∷ chain layout itinerary limit (nextOf layout itinerary index))) ≤ suc limit
+      go : (b : Bool) → length (chainWithin layout itinerary limit (nextOf layout itinerary index)) ≤ limit
+          → length (cond b [] (index ∷ chainWithin layout itinerary limit (nextOf layout itinerary index))) ≤ suc limit
       go true h = omega arith
       go false h = omega arith
 
@@ -60,7 +54,9 @@ module _ (layout : Layout) (itinerary : List ℕ) where
       let limit = recordCount layout itinerary in
       let first = firstStation layout itinerary in
       let short = chain-short limit first in
-      rw (e, next-record layout itinerary limit first (place + m) (omega arith) (omega arith), record-after place m (omega arith))
+      let there = record-there layout itinerary limit first (place + m) (omega arith) in
+      let next = next-record layout itinerary limit first (place + m) (omega arith) (omega arith) in
+      rw (e, next, ← record-after place m (omega arith), ne-eqb _ 0 there)
 
   module _ (edition : Edition) (path : List ℕ) (matched : Matched edition layout itinerary path) where
     shape : Shape edition path
@@ -81,27 +77,37 @@ module _ (layout : Layout) (itinerary : List ℕ) where
     among : (s m : ℕ) → s < infos path → m < countOf path s → startOf path s - shared edition path s + m < length records
     among s m h w =
         let there = station-among shape s m h w in
-        let limit = recordCount layout itinerary in
-        let many = counts (peeringPath edition path) (sym (count-by-records layout itinerary limit limit) ∙ matched .counted) in
+        let count = count-by-records layout itinerary records (tableRecords layout itinerary) in
+        let many = counts (peeringPath edition path) (sym count ∙ matched .counted) in
         omega (arith, there, starts-behind s h, many)
 
     pub station-read : (s m : ℕ) → s < infos path → m < countOf path s
         → stationOf edition (stations layout itinerary) path s m
         ≡ stationAt layout itinerary (recordAfter layout itinerary (getD records (startOf path s - shared edition path s) 0) m)
     station-read s m h w =
-        station-from-record layout itinerary (recordCount layout itinerary) (recordCount layout itinerary)
+        station-from-record layout itinerary records (tableRecords layout itinerary)
         (startOf path s - shared edition path s + m) noStation (among s m h w)
         ∙ ap (stationAt layout itinerary) (record-after (startOf path s - shared edition path s) m (among s m h w))
 
-    pub segment-read : (earliest latest s : ℕ) → s < infos path → {first : ℕ}
-        → first ≡ getD records (startOf path s - shared edition path s) 0
-        → segmentFits (λ m. stationAt layout itinerary (recordAfter layout itinerary first m)) earliest latest (peeringHopOf edition path s)
-        (infoField path s) (hopOf path s) (countOf path s)
-        ≡ segmentPasses edition (stations layout itinerary) earliest latest path s
+    -- the record that a segment starts at
+    abbrev firstOf : ℕ → ℕ
+    firstOf s = getD records (startOf path s - shared edition path s) 0
+
+    three : (a b c s : ℕ) → a ≡ firstOf 0 → b ≡ firstOf 1 → c ≡ firstOf 2 → s < 3 → getD (a ∷ b ∷ c ∷ []) s 0 ≡ firstOf s
+    three a b c zero d e f h = d
+    three a b c (suc zero) d e f h = e
+    three a b c (suc (suc zero)) d e f h = f
+    three a b c (suc (suc (suc s))) d e f h = absurd (omega arith)
+
+    pub segments-read : (earliest latest : ℕ) {a b c : ℕ} → a ≡ firstOf 0 → b ≡ firstOf 1 → c ≡ firstOf 2
+        → all (infos path) (λ s. segmentFitsFrom edition layout itinerary (getD (a ∷ b ∷ c ∷ []) s 0) earliest latest path s)
+        ≡ all (infos path) (segmentPasses edition (stations layout itinerary) earliest latest path)
     unfolding segmentPasses segmentFits
-    segment-read earliest latest s h {first} e =
-        ap (λ (b : Bool). leb (timestamp (infoField path s)) earliest && b)
-        (all-same (countOf path s) _ _ (λ m w. rw (e, ← station-read s m h w)))
+    segments-read earliest latest {a} {b} {c} d e f =
+        all-same (infos path) _ _
+        (λ s h. ap (λ (x : Bool). leb (timestamp (infoField path s)) earliest && x)
+        (all-same (countOf path s) _ _
+        (λ m w. rw (three a b c s d e f (at-most-three path s h), ← station-read s m h w))))
 
     pick-true : (b : Bool) (x y : Bool) → b ≡ true → x ≡ cond b x y
     pick-true true x y e = refl
@@ -124,16 +130,15 @@ module _ (layout : Layout) (itinerary : List ℕ) where
     pub link-read : peeringPath edition path ≡ true → (s : ℕ) → s + 1 < infos path → {here next : ℕ}
         → here ≡ getD records (startOf path s + (countOf path s - 1)) 0
         → next ≡ getD records (startOf path (s + 1) - shared edition path (s + 1)) 0
-        → linkFits (stationAt layout itinerary here) (stationAt layout itinerary next) (infoField path s) (hopOf path s (countOf path s - 1))
-        (infoField path (s + 1)) (hopOf path (s + 1) 0)
+        → linkFits (stationAt layout itinerary here) (stationAt layout itinerary next) (infoField path s)
+        (hopOf path s (countOf path s - 1)) (infoField path (s + 1)) (hopOf path (s + 1) 0)
         ≡ jointPasses edition (stations layout itinerary) path s
     unfolding jointPasses recordAfter
     link-read p s h {here} {next} e f =
         let w : countOf path s - 1 < countOf path s = omega (arith, some-hops s (omega arith)) in
-        let limit = recordCount layout itinerary in
         let index : startOf path s + (countOf path s - 1) ≡ startOf path s - shared edition path s + (countOf path s - 1) =
         omega (arith, shared-linked edition path p s) in
-        let last = station-from-record layout itinerary limit limit (startOf path s - shared edition path s + (countOf path s - 1)) noStation
-        (among s (countOf path s - 1) (omega arith) w) in
+        let last = station-from-record layout itinerary records (tableRecords layout itinerary)
+        (startOf path s - shared edition path s + (countOf path s - 1)) noStation (among s (countOf path s - 1) (omega arith) w) in
         rw (e, index, ← last)
         (rw (f, ← station-read (s + 1) 0 h (omega (arith, some-hops (s + 1) h))) (pick-true (peeringPath edition path) _ _ p))

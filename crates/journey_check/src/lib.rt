@@ -1,5 +1,4 @@
 // The journey check: would a path arrive over the stations of an itinerary, whatever their clocks read from earliest to latest?
-mod hops;
 mod joints;
 mod segments;
 pub mod verdict;

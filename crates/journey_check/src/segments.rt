@@ -1,22 +1,19 @@
-// The lengths of a path, and what is asked of each of its segments.
-use crate::hops;
+// The lengths of a path, and the stations that its segments start at.
 use edition::Edition;
-use hop_mac::mac_beta_step;
 use itinerary::station::station_record;
+use records::form::Form;
+use segment_check::hops::segment_start;
+use segment_check::segments::segments_fit;
 use standard_path::view;
 ghost use mathlib.Core.Path.{_≡_};
-ghost use Prim.Native.Nat.{_-_, _<_, _≤_};
+ghost use Prim.Native.Nat.{_-_};
 ghost use lib.ListN.{getD};
-ghost use Rattle.aes.specs.ByTable.{roundTable};
 ghost use Rattle.standard_path.specs.Meta.{seg0Len, seg1Len, seg2Len};
-ghost use Rattle.standard_path.specs.Header.{infos, infoField};
-ghost use Rattle.records.specs.Layout.{narrow};
-ghost use Rattle.records.specs.Records.{recordCount};
-ghost use Rattle.itinerary.specs.Itinerary.{stationRecords, stationAt, stations};
-ghost use Rattle.journey.specs.Check.{all, longEnough, lengthsFit, lengthsPass, startOf, countOf, hopOf, peeringHopOf, shared};
-ghost use Rattle.journey.specs.Check.{chainedSegId, segmentFits, segmentPasses};
-ghost use Rattle.journey_check.specs.Records.{recordAfter};
-ghost use Rattle.journey_check.specs.Matched.{Matched};
+ghost use Rattle.standard_path.specs.Header.{infos};
+ghost use Rattle.records.specs.Layout.{layoutOf};
+ghost use Rattle.itinerary.specs.Itinerary.{stationRecords, stations};
+ghost use Rattle.journey.specs.Check.{all, longEnough, lengthsFit, lengthsPass, startOf, shared, segmentPasses};
+ghost use Rattle.journey_check.specs.Inner.{Matched};
 
 // ---- the lengths
 
@@ -45,71 +42,7 @@ pub fn lengths_pass(edition: Edition, path: &[u8]) -> bool
     edition::is_peering_path(edition, path) | lengths_fit(path)
 }
 
-// ---- a segment
-
-// The SegID that a hop is checked with, from that of the hop before it: that hop's MAC goes in, or, against construction, its own.
-fn chained_segment_id(edition: Edition, path: &[u8], segment: u8, before: u16, hop: u8) -> u16
-    requires chained { ⌜ before ≡ chainedSegId (peeringHopOf edition (now path) segment) (infoField (now path) segment)
-        (hopOf (now path) segment) (hop - 1) ⌝ }
-    requires short { ⌜ hop < 64 ⌝ }
-    ensures { λ r. ⌜ r ≡ chainedSegId (peeringHopOf edition (now (path .entry)) segment) (infoField (now (path .entry)) segment)
-        (hopOf (now (path .entry)) segment) hop ⌝ }
-{
-    let cons_dir = fields::cons_dir(view::info_field(path, segment));
-    if hop == 0 {
-        return before;
-    }
-    let stepped = if cons_dir { hop - 1 } else { hop };
-    if hops::is_peering_hop(edition, path, segment, stepped) {
-        return before;
-    }
-    mac_beta_step(before, fields::mac(hops::hop_of(path, segment, stepped)))
-}
-
-// A segment whose first hop is at the station with this record.
-fn segment_fits(
-    edition: Edition,
-    table: &[u8; 1024],
-    itinerary: &[u8],
-    first: u32,
-    earliest: u32,
-    latest: u32,
-    path: &[u8],
-    segment: u8,
-) -> bool
-    requires { ⌜ now table ≡ roundTable ⌝ }
-    ensures { λ r. ⌜ r ≡ segmentFits (λ m. stationAt narrow (now (itinerary .entry)) (recordAfter narrow (now (itinerary .entry)) first m))
-        earliest latest (peeringHopOf edition (now (path .entry)) segment) (infoField (now (path .entry)) segment)
-        (hopOf (now (path .entry)) segment) (countOf (now (path .entry)) segment) ⌝ }
-{
-    let info = view::info_field(path, segment);
-    if earliest < fields::timestamp(info) {
-        return false;
-    }
-    let count = hops::hop_count(path, segment);
-    let mut station = first;
-    let mut segment_id = fields::segment_id(info);
-    let mut hop: u8 = 0;
-    while hop < count {
-        segment_id = chained_segment_id(edition, path, segment, segment_id, hop);
-        if !hops::hop_fits(
-            edition,
-            table,
-            itinerary,
-            station,
-            latest,
-            path,
-            segment,
-            segment_id,
-            hop,
-        ) {
-            return false;
-        }
-        station = records::next(itinerary, station);
-        hop += 1;
-    }
-    true
-}
+// ---- the segments
 
 // How many stations before a segment take two hops.
 fn shared_stations(edition: Edition, path: &[u8], segment: u8) -> u8
@@ -122,62 +55,40 @@ fn shared_stations(edition: Edition, path: &[u8], segment: u8) -> u8
 }
 
 // The record of the station that a segment's first hop goes to.
-pub fn first_station(edition: Edition, itinerary: &[u8], path: &[u8], segment: u8) -> u32
-    requires { ⌜ shared edition (now path) segment ≤ startOf (now path) segment ⌝ }
-    ensures { λ r. ⌜ r ≡ getD (stationRecords narrow (now (itinerary .entry)) (recordCount narrow (now (itinerary .entry))))
-        (startOf (now (path .entry)) segment - shared edition (now (path .entry)) segment) 0 ⌝ }
-{
-    let shared = shared_stations(edition, path, segment);
-    station_record(itinerary, hops::segment_start(path, segment) - shared)
-}
-
-fn segment_passes(
+pub fn first_station(
+    form: Form,
     edition: Edition,
-    table: &[u8; 1024],
     itinerary: &[u8],
-    earliest: u32,
-    latest: u32,
     path: &[u8],
     segment: u8,
-) -> bool
-    requires table { ⌜ now table ≡ roundTable ⌝ }
-    requires matched { ⌜ Matched edition narrow (now itinerary) (now path) ⌝ }
-    requires listed { ⌜ segment < infos (now path) ⌝ }
-    ensures { λ r. ⌜ r ≡ segmentPasses edition (stations narrow (now (itinerary .entry))) earliest latest (now (path .entry)) segment ⌝ }
+) -> u32
+    ensures { λ r. ⌜ r ≡ getD (stationRecords (layoutOf form) (now (itinerary .entry)))
+        (startOf (now (path .entry)) segment - shared edition (now (path .entry)) segment) 0 ⌝ }
 {
-    let first = first_station(edition, itinerary, path, segment);
-    segment_fits(
-        edition,
-        table,
-        itinerary,
-        first,
-        earliest,
-        latest,
-        path,
-        segment,
-    )
+    let start = segment_start(path, segment);
+    let shared = shared_stations(edition, path, segment);
+    if start < shared {
+        return station_record(form, itinerary, 0);
+    }
+    station_record(form, itinerary, start - shared)
 }
 
 pub fn segments_pass(
+    form: Form,
     edition: Edition,
-    table: &[u8; 1024],
     itinerary: &[u8],
     earliest: u32,
     latest: u32,
     path: &[u8],
 ) -> bool
-    requires table { ⌜ now table ≡ roundTable ⌝ }
-    requires matched { ⌜ Matched edition narrow (now itinerary) (now path) ⌝ }
+    requires { ⌜ Matched edition (layoutOf form) (now itinerary) (now path) ⌝ }
     ensures { λ r. ⌜ r ≡ all (infos (now (path .entry)))
-        (segmentPasses edition (stations narrow (now (itinerary .entry))) earliest latest (now (path .entry))) ⌝ }
+        (segmentPasses edition (stations (layoutOf form) (now (itinerary .entry))) earliest latest (now (path .entry))) ⌝ }
 {
-    let infos = view::info_field_count(path);
-    let mut segment: u8 = 0;
-    while segment < infos {
-        if !segment_passes(edition, table, itinerary, earliest, latest, path, segment) {
-            return false;
-        }
-        segment += 1;
-    }
-    true
+    let firsts = [
+        first_station(form, edition, itinerary, path, 0),
+        first_station(form, edition, itinerary, path, 1),
+        first_station(form, edition, itinerary, path, 2),
+    ];
+    segments_fit(form, edition, itinerary, firsts, earliest, latest, path)
 }

@@ -5,6 +5,7 @@ use edition::Edition;
 use itinerary::station;
 use journey::answer::JourneyError;
 use journey::answer::Verdict;
+use records::form::Form;
 use standard_path::view;
 use standard_path::view::HeaderCheck;
 ghost use mathlib.Core.Path.{_≡_};
@@ -12,10 +13,9 @@ ghost use mathlib.Core.Bool.{not, _&&_, cond};
 ghost use lib.Dec.{eqb, leb};
 ghost use lib.ListN.{length, drop};
 ghost use Rattle.questions.specs.Questions.{asks};
-ghost use Rattle.aes.specs.ByTable.{roundTable};
 ghost use Rattle.standard_path.specs.Meta.{currHf, currInf};
 ghost use Rattle.fields.specs.Fields.{consIngressAlert, consEgressAlert};
-ghost use Rattle.records.specs.Layout.{narrow};
+ghost use Rattle.records.specs.Layout.{narrow, layoutOf};
 ghost use Rattle.itinerary.specs.Itinerary.{stations, itineraryFits};
 ghost use Rattle.journey.specs.Check.{passes};
 ghost use Rattle.journey.specs.Verdict.{stationCount, quiet, questions, journeyCheck};
@@ -24,17 +24,16 @@ ghost use Rattle.journey.specs.declared.answer.Verdict.the-variants.{Passed, No
 
 // ---- the conditions of a pass
 
-fn passes_with(
+fn passes(
+    form: Form,
     edition: Edition,
-    table: &[u8; 1024],
     itinerary: &[u8],
     earliest: u32,
     latest: u32,
     path: &[u8],
 ) -> bool
-    requires table { ⌜ now table ≡ roundTable ⌝ }
-    requires counted { ⌜ length (stations narrow (now itinerary)) ≡ stationCount edition (now path) ⌝ }
-    ensures { λ r. ⌜ r ≡ passes edition (stations narrow (now (itinerary .entry))) earliest latest (now (path .entry)) ⌝ }
+    requires { ⌜ length (stations (layoutOf form) (now itinerary)) ≡ stationCount edition (now path) ⌝ }
+    ensures { λ r. ⌜ r ≡ passes edition (stations (layoutOf form) (now (itinerary .entry))) earliest latest (now (path .entry)) ⌝ }
 {
     if !edition::peering_fits(edition, path) {
         return false;
@@ -42,17 +41,8 @@ fn passes_with(
     if !segments::lengths_pass(edition, path) {
         return false;
     }
-    segments::segments_pass(edition, table, itinerary, earliest, latest, path)
-        & joints::joints_pass(edition, itinerary, path)
-}
-
-// The round table is copied here, once for all MACs.
-fn passes(edition: Edition, itinerary: &[u8], earliest: u32, latest: u32, path: &[u8]) -> bool
-    requires { ⌜ length (stations narrow (now itinerary)) ≡ stationCount edition (now path) ⌝ }
-    ensures { λ r. ⌜ r ≡ passes edition (stations narrow (now (itinerary .entry))) earliest latest (now (path .entry)) ⌝ }
-{
-    let table = aes::round_table();
-    passes_with(edition, &table, itinerary, earliest, latest, path)
+    segments::segments_pass(form, edition, itinerary, earliest, latest, path)
+        & joints::joints_pass(form, edition, itinerary, path)
 }
 
 // ---- the questions
@@ -67,6 +57,7 @@ fn station_count(edition: Edition, path: &[u8]) -> u8
 }
 
 fn itinerary_fits(
+    form: Form,
     edition: Edition,
     itinerary: &[u8],
     earliest: u32,
@@ -74,9 +65,9 @@ fn itinerary_fits(
     path: &[u8],
 ) -> bool
     ensures { λ r. ⌜ r ≡
-        (itineraryFits narrow (now (itinerary .entry)) (stationCount edition (now (path .entry))) && leb earliest latest) ⌝ }
+        (itineraryFits (layoutOf form) (now (itinerary .entry)) (stationCount edition (now (path .entry))) && leb earliest latest) ⌝ }
 {
-    station::fits(itinerary, station_count(edition, path)) & (earliest <= latest)
+    station::fits(form, itinerary, station_count(edition, path)) & (earliest <= latest)
 }
 
 fn is_at_start(path: &[u8]) -> bool
@@ -107,16 +98,17 @@ fn is_quiet(path: &[u8]) -> bool
 
 // Questions 23 to 25, and what comes after them.
 fn check_complete(
+    form: Form,
     edition: Edition,
     path: &[u8],
     itinerary: &[u8],
     earliest: u32,
     latest: u32,
 ) -> Verdict
-    ensures { λ r. ⌜ r ≡ asks Refused (drop 3 (questions edition narrow (now (itinerary .entry)) earliest latest (now (path .entry))))
-        (cond (passes edition (stations narrow (now (itinerary .entry))) earliest latest (now (path .entry))) Passed NotPassed) ⌝ }
+    ensures { λ r. ⌜ r ≡ asks Refused (drop 3 (questions edition (layoutOf form) (now (itinerary .entry)) earliest latest (now (path .entry))))
+        (cond (passes edition (stations (layoutOf form) (now (itinerary .entry))) earliest latest (now (path .entry))) Passed NotPassed) ⌝ }
 {
-    if !itinerary_fits(edition, itinerary, earliest, latest, path) {
+    if !itinerary_fits(form, edition, itinerary, earliest, latest, path) {
         return Verdict::Refused(JourneyError::UnfitItinerary);
     }
     if !is_at_start(path) {
@@ -125,7 +117,7 @@ fn check_complete(
     if !is_quiet(path) {
         return Verdict::Refused(JourneyError::AlertSet);
     }
-    if passes(edition, itinerary, earliest, latest, path) {
+    if passes(form, edition, itinerary, earliest, latest, path) {
         Verdict::Passed
     } else {
         Verdict::NotPassed
@@ -144,6 +136,8 @@ pub fn check_journey(
 {
     match view::check_header(path) {
         HeaderCheck::Failed(error) => Verdict::Refused(JourneyError::HeaderFailed(error)),
-        HeaderCheck::Complete => check_complete(edition, path, itinerary, earliest, latest),
+        HeaderCheck::Complete => {
+            check_complete(Form::Narrow, edition, path, itinerary, earliest, latest)
+        }
     }
 }

@@ -16,42 +16,42 @@ use Rattle.interface_table.specs.declared.Listed.{Listed}
 use Rattle.interface_table.specs.declared.Listed.the-variants.{State, Nothing}
 use Rattle.interface_table.proofs.Entries.{entriesSound, sound-by-entries}
 use Rattle.records.specs.Layout.{Layout}
-use Rattle.records.specs.Records.{every, nextOf, interfaceNumberOf, interfaceStateOf, chain}
+use Rattle.records.specs.Records.{every, nextOf, interfaceNumberOf, interfaceStateOf, chainWithin}
 
 -- ---- a chain, taken apart
 
 module _ (layout : Layout) (itinerary : List ℕ) where
-  pub chain-end : (left index : ℕ) → index ≡ 0 → chain layout itinerary left index ≡ []
-  unfolding chain
+  pub chain-end : (left index : ℕ) → index ≡ 0 → chainWithin layout itinerary left index ≡ []
+  unfolding chainWithin
   chain-end zero index e = refl
   chain-end (suc left) index e = rw (eq-eqb index 0 e)
 
-  pub chain-out : (left index : ℕ) → left ≡ 0 → chain layout itinerary left index ≡ []
-  unfolding chain
+  pub chain-out : (left index : ℕ) → left ≡ 0 → chainWithin layout itinerary left index ≡ []
+  unfolding chainWithin
   chain-out left index e = rw e
 
   pub chain-on : (left index next : ℕ) → 0 < left → (index ≡ 0 → ⊥) → next ≡ nextOf layout itinerary index
-      → chain layout itinerary left index ≡ index ∷ chain layout itinerary (left - 1) next
-  unfolding chain
+      → chainWithin layout itinerary left index ≡ index ∷ chainWithin layout itinerary (left - 1) next
+  unfolding chainWithin
   chain-on zero index next h n e = absurd (omega arith)
   chain-on (suc left) index next h n e = let d : suc left - 1 ≡ left = omega arith in rw (ne-eqb index 0 n, d, e)
 
 -- ---- each record of a chain is asked
 
 pub record Asked (layout : Layout) (itinerary : List ℕ) (holds : ℕ → Bool) (limit first left index : ℕ) : Type 0 where
-  pub rest : every holds (chain layout itinerary limit first) ≡ every holds (chain layout itinerary left index)
+  pub rest : every holds (chainWithin layout itinerary limit first) ≡ every holds (chainWithin layout itinerary left index)
 
 module _ {layout : Layout} {itinerary : List ℕ} {holds : ℕ → Bool} {limit first left index : ℕ}
     (asked : Asked layout itinerary holds limit first left index) where
-  pub asked-end : index ≡ 0 → true ≡ every holds (chain layout itinerary limit first)
+  pub asked-end : index ≡ 0 → true ≡ every holds (chainWithin layout itinerary limit first)
   unfolding every
   asked-end e = sym (asked .rest ∙ rw (chain-end layout itinerary left index e))
 
-  pub asked-out : left ≡ 0 → true ≡ every holds (chain layout itinerary limit first)
+  pub asked-out : left ≡ 0 → true ≡ every holds (chainWithin layout itinerary limit first)
   unfolding every
   asked-out e = sym (asked .rest ∙ rw (chain-out layout itinerary left index e))
 
-  pub asked-no : 0 < left → (index ≡ 0 → ⊥) → holds index ≡ false → false ≡ every holds (chain layout itinerary limit first)
+  pub asked-no : 0 < left → (index ≡ 0 → ⊥) → holds index ≡ false → false ≡ every holds (chainWithin layout itinerary limit first)
   unfolding every
   asked-no h n e = sym (asked .rest ∙ rw (chain-on layout itinerary left index _ h n refl, e))
 
@@ -62,7 +62,7 @@ module _ {layout : Layout} {itinerary : List ℕ} {holds : ℕ → Bool} {limit 
 
   -- the answer of a call
   module _ {answer : Bool} (more : 0 < left) (here : index ≡ 0 → ⊥) (e : answer ≡ holds index) where
-    pub answered-no : not answer ≡ true → false ≡ every holds (chain layout itinerary limit first)
+    pub answered-no : not answer ≡ true → false ≡ every holds (chainWithin layout itinerary limit first)
     answered-no h = asked-no more here (sym e ∙ not-true answer h)
 
     pub answered-yes : {next : ℕ} → not answer ≡ false → next ≡ nextOf layout itinerary index
@@ -72,18 +72,18 @@ module _ {layout : Layout} {itinerary : List ℕ} {holds : ℕ → Bool} {limit 
 -- ---- the records of a chain are counted
 
 pub record Counted (layout : Layout) (itinerary : List ℕ) (limit first left index : ℕ) : Type 0 where
-  pub rest : length (chain layout itinerary limit first) + left ≡ limit + length (chain layout itinerary left index)
+  pub rest : length (chainWithin layout itinerary limit first) + left ≡ limit + length (chainWithin layout itinerary left index)
 
 module _ {layout : Layout} {itinerary : List ℕ} {limit first left index : ℕ}
     (counted : Counted layout itinerary limit first left index) where
-  pub counted-end : index ≡ 0 → length (chain layout itinerary limit first) + left ≡ limit
+  pub counted-end : index ≡ 0 → length (chainWithin layout itinerary limit first) + left ≡ limit
   counted-end e =
-      let none : length (chain layout itinerary left index) ≡ 0 = rw (chain-end layout itinerary left index e) in
+      let none : length (chainWithin layout itinerary left index) ≡ 0 = rw (chain-end layout itinerary left index e) in
       omega (arith, counted .rest)
 
-  pub counted-out : left ≡ 0 → length (chain layout itinerary limit first) ≡ limit
+  pub counted-out : left ≡ 0 → length (chainWithin layout itinerary limit first) ≡ limit
   counted-out e =
-      let none : length (chain layout itinerary left index) ≡ 0 = rw (chain-out layout itinerary left index e) in
+      let none : length (chainWithin layout itinerary left index) ≡ 0 = rw (chain-out layout itinerary left index e) in
       omega (arith, counted .rest)
 
   pub counted-on : {next : ℕ} → 0 < left → (index ≡ 0 → ⊥) → next ≡ nextOf layout itinerary index
@@ -100,21 +100,21 @@ module _ (layout : Layout) (itinerary : List ℕ) where
       stateOf (map (interfaceNumberOf layout itinerary) records) (map (interfaceStateOf layout itinerary) records) wanted
 
 pub record Sought (layout : Layout) (itinerary : List ℕ) (wanted limit first left index : ℕ) : Type 0 where
-  pub rest : listed layout itinerary (chain layout itinerary limit first) wanted
-      ≡ listed layout itinerary (chain layout itinerary left index) wanted
+  pub rest : listed layout itinerary (chainWithin layout itinerary limit first) wanted
+      ≡ listed layout itinerary (chainWithin layout itinerary left index) wanted
 
 module _ {layout : Layout} {itinerary : List ℕ} {wanted limit first left index : ℕ}
     (sought : Sought layout itinerary wanted limit first left index) where
-  pub sought-end : index ≡ 0 → Nothing ≡ listed layout itinerary (chain layout itinerary limit first) wanted
+  pub sought-end : index ≡ 0 → Nothing ≡ listed layout itinerary (chainWithin layout itinerary limit first) wanted
   unfolding stateOf
   sought-end e = sym (sought .rest ∙ rw (chain-end layout itinerary left index e))
 
-  pub sought-out : left ≡ 0 → Nothing ≡ listed layout itinerary (chain layout itinerary limit first) wanted
+  pub sought-out : left ≡ 0 → Nothing ≡ listed layout itinerary (chainWithin layout itinerary limit first) wanted
   unfolding stateOf
   sought-out e = sym (sought .rest ∙ rw (chain-out layout itinerary left index e))
 
   pub sought-here : 0 < left → (index ≡ 0 → ⊥) → interfaceNumberOf layout itinerary index ≡ wanted
-      → State (interfaceStateOf layout itinerary index) ≡ listed layout itinerary (chain layout itinerary limit first) wanted
+      → State (interfaceStateOf layout itinerary index) ≡ listed layout itinerary (chainWithin layout itinerary limit first) wanted
   unfolding stateOf
   sought-here h n e =
       sym (sought .rest ∙ rw (chain-on layout itinerary left index _ h n refl, eq-eqb (interfaceNumberOf layout itinerary index) wanted e))
@@ -139,43 +139,44 @@ module _ (layout : Layout) (itinerary : List ℕ) where
   soundTable records = tableSound (map (interfaceNumberOf layout itinerary) records) (map (interfaceStateOf layout itinerary) records)
 
 pub record Entered (layout : Layout) (itinerary : List ℕ) (first lowest left index : ℕ) : Type 0 where
-  pub rest : entriesFrom layout itinerary 0 (chain layout itinerary 257 first)
-      ≡ entriesFrom layout itinerary lowest (chain layout itinerary left index)
+  pub rest : entriesFrom layout itinerary 0 (chainWithin layout itinerary 257 first)
+      ≡ entriesFrom layout itinerary lowest (chainWithin layout itinerary left index)
   pub counted : Counted layout itinerary 257 first left index
 
 module _ {layout : Layout} {itinerary : List ℕ} {first lowest left index : ℕ}
     (entered : Entered layout itinerary first lowest left index) where
-  by-entries : soundTable layout itinerary (chain layout itinerary 257 first)
-      ≡ (leb (length (chain layout itinerary 257 first)) 256 && entriesFrom layout itinerary lowest (chain layout itinerary left index))
+  by-entries : soundTable layout itinerary (chainWithin layout itinerary 257 first)
+      ≡ (leb (length (chainWithin layout itinerary 257 first)) 256
+      && entriesFrom layout itinerary lowest (chainWithin layout itinerary left index))
   by-entries =
-      sound-by-entries (map (interfaceNumberOf layout itinerary) (chain layout itinerary 257 first))
-      (map (interfaceStateOf layout itinerary) (chain layout itinerary 257 first))
+      sound-by-entries (map (interfaceNumberOf layout itinerary) (chainWithin layout itinerary 257 first))
+      (map (interfaceStateOf layout itinerary) (chainWithin layout itinerary 257 first))
       ∙ rw (length-map, entered .rest)
 
-  unsound : entriesFrom layout itinerary lowest (chain layout itinerary left index) ≡ false
-      → false ≡ soundTable layout itinerary (chain layout itinerary 257 first)
+  unsound : entriesFrom layout itinerary lowest (chainWithin layout itinerary left index) ≡ false
+      → false ≡ soundTable layout itinerary (chainWithin layout itinerary 257 first)
   unsound e = sym (by-entries ∙ rw (e, and-false))
 
-  pub entered-end : 0 < left → index ≡ 0 → true ≡ soundTable layout itinerary (chain layout itinerary 257 first)
+  pub entered-end : 0 < left → index ≡ 0 → true ≡ soundTable layout itinerary (chainWithin layout itinerary 257 first)
   unfolding entriesSound
   entered-end h e =
-      let few : length (chain layout itinerary 257 first) ≤ 256 = omega (arith, counted-end (entered .counted) e) in
+      let few : length (chainWithin layout itinerary 257 first) ≤ 256 = omega (arith, counted-end (entered .counted) e) in
       sym (by-entries ∙ rw (le-leb _ 256 few, chain-end layout itinerary left index e))
 
-  pub entered-out : left ≡ 0 → false ≡ soundTable layout itinerary (chain layout itinerary 257 first)
+  pub entered-out : left ≡ 0 → false ≡ soundTable layout itinerary (chainWithin layout itinerary 257 first)
   entered-out e =
-      let many : 256 < length (chain layout itinerary 257 first) = omega (arith, counted-out (entered .counted) e) in
+      let many : 256 < length (chainWithin layout itinerary 257 first) = omega (arith, counted-out (entered .counted) e) in
       sym (by-entries ∙ rw (lt-leb _ 256 many))
 
   module _ (more : 0 < left) (here : index ≡ 0 → ⊥) where
     pub entered-low : interfaceNumberOf layout itinerary index < lowest
-        → false ≡ soundTable layout itinerary (chain layout itinerary 257 first)
+        → false ≡ soundTable layout itinerary (chainWithin layout itinerary 257 first)
     unfolding entriesSound
     entered-low h = unsound (rw (chain-on layout itinerary left index _ more here refl, lt-leb lowest _ h))
 
     module _ (high : lowest ≤ interfaceNumberOf layout itinerary index) where
       pub entered-state : 8 ≤ interfaceStateOf layout itinerary index
-          → false ≡ soundTable layout itinerary (chain layout itinerary 257 first)
+          → false ≡ soundTable layout itinerary (chainWithin layout itinerary 257 first)
       unfolding entriesSound
       entered-state h =
           unsound (rw (chain-on layout itinerary left index _ more here refl, le-leb lowest _ high, le-ltb _ 8 h))
@@ -193,17 +194,17 @@ module _ {layout : Layout} {itinerary : List ℕ} {first lowest left index : ℕ
 
 pub record Passed (layout : Layout) (itinerary : List ℕ) (place limit first passed left index : ℕ) : Type 0 where
   pub fewer : passed ≤ place
-  pub rest : getD (chain layout itinerary limit first) place 0 ≡ getD (chain layout itinerary left index) (place - passed) 0
+  pub rest : getD (chainWithin layout itinerary limit first) place 0 ≡ getD (chainWithin layout itinerary left index) (place - passed) 0
 
 module _ {layout : Layout} {itinerary : List ℕ} {place limit first passed left index : ℕ}
     (walked : Passed layout itinerary place limit first passed left index) where
-  pub passed-end : index ≡ 0 → 0 ≡ getD (chain layout itinerary limit first) place 0
+  pub passed-end : index ≡ 0 → 0 ≡ getD (chainWithin layout itinerary limit first) place 0
   passed-end e = sym (walked .rest ∙ rw (chain-end layout itinerary left index e))
 
-  pub passed-out : left ≡ 0 → 0 ≡ getD (chain layout itinerary limit first) place 0
+  pub passed-out : left ≡ 0 → 0 ≡ getD (chainWithin layout itinerary limit first) place 0
   passed-out e = sym (walked .rest ∙ rw (chain-out layout itinerary left index e))
 
-  pub passed-here : 0 < left → (index ≡ 0 → ⊥) → passed ≡ place → index ≡ getD (chain layout itinerary limit first) place 0
+  pub passed-here : 0 < left → (index ≡ 0 → ⊥) → passed ≡ place → index ≡ getD (chainWithin layout itinerary limit first) place 0
   passed-here h n e =
       let d : place - passed ≡ 0 = omega arith in
       sym (walked .rest ∙ rw (d, chain-on layout itinerary left index _ h n refl))

@@ -3,6 +3,8 @@
 use Prim.Native.Nat.{ℕ, _+_, _*_}
 use mathlib.Core.List.{List, [], _∷_}
 use Rattle.octets.specs.Bytes.{be16At}
+use Rattle.records.specs.declared.form.Form.{Form}
+use Rattle.records.specs.declared.form.Form.the-variants.{Narrow}
 
 -- A record starts with an index: in record 0 that of the first station, in any other that of the next record of its chain.
 -- A range of zeros is its first byte and how many they are.
@@ -38,6 +40,10 @@ narrow =
       state = 4;
       interfaceZeros = (5, 27) ∷ [];
     }
+
+-- the layout of a form's records: what a form means
+abbrev pub layoutOf : Form → Layout
+layoutOf Narrow = narrow
 
 -- where a field of a record stands
 abbrev pub offset : Layout → ℕ → ℕ → ℕ

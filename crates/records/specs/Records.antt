@@ -3,7 +3,7 @@
 use Prim.Native.Nat.{ℕ, zero, suc, _+_, _/_}
 use mathlib.Core.Bool.{Bool, true, cond, _&&_}
 use mathlib.Core.List.{List, [], _∷_}
-use lib.Dec.{eqb, ltb}
+use lib.Dec.{eqb}
 use lib.ListN.{length, getD}
 use Rattle.octets.specs.Bytes.{tabulate, be16At}
 use Rattle.records.specs.Layout.{Layout, offset}
@@ -11,11 +11,6 @@ use Rattle.records.specs.Layout.{Layout, offset}
 unfoldable pub every : {A : Type 0} → (A → Bool) → List A → Bool
 every holds [] = true
 every holds (x ∷ xs) = holds x && every holds xs
-
--- for the contract of an inner function: without the numbers in front that are below a bound
-unfoldable pub dropBelow : ℕ → List ℕ → List ℕ
-dropBelow bound [] = []
-dropBelow bound (x ∷ xs) = cond (ltb x bound) (dropBelow bound xs) (x ∷ xs)
 
 module _ (layout : Layout) (itinerary : List ℕ) where
   unfoldable pub recordCount : ℕ
@@ -51,6 +46,15 @@ module _ (layout : Layout) (itinerary : List ℕ) where
   firstStation = nextOf 0
 
   -- 'chained by a next index, zero ends the chain'; no more of it than the limit
-  unfoldable pub chain : ℕ → ℕ → List ℕ
-  chain zero index = []
-  chain (suc limit) index = cond (eqb index 0) [] (index ∷ chain limit (nextOf index))
+  unfoldable pub chainWithin : ℕ → ℕ → List ℕ
+  chainWithin zero index = []
+  chainWithin (suc limit) index = cond (eqb index 0) [] (index ∷ chainWithin limit (nextOf index))
+
+  -- the whole of it: a sound chain goes up, and so has fewer records than there are (`fewer` of the itinerary's proofs)
+  abbrev pub chain : ℕ → List ℕ
+  chain index = chainWithin recordCount index
+
+  -- the record so many places behind one in its chain; behind the last one there is none
+  unfoldable pub recordAfter : ℕ → ℕ → ℕ
+  recordAfter index zero = index
+  recordAfter index (suc n) = cond (eqb (recordAfter index n) 0) 0 (nextOf (recordAfter index n))

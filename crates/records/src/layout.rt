@@ -1,7 +1,4 @@
-// Sizes and offsets of an itinerary's records, in bytes.
-ghost use mathlib.Core.Path.{_≡_};
-ghost use Rattle.records.specs.Layout.{narrow, offset};
-
+// Sizes and offsets of an itinerary's records in the narrow form, in bytes.
 // Any record.
 pub struct RecordLayout;
 
@@ -11,13 +8,6 @@ impl RecordLayout {
     pub const MAX_RECORDS: usize = 2048;
 
     pub const NEXT: u8 = 0;
-
-    // Where a field of the record with this index stands.
-    pub fn offset(index: u32, field: u8) -> usize
-        ensures { λ r. ⌜ r ≡ offset narrow index field ⌝ }
-    {
-        RecordLayout::SIZE_BYTES * (index as usize) + (field as usize)
-    }
 }
 
 // Record 0.

@@ -5,7 +5,7 @@ use Rattle.records.proofs.next.Tie as tie
 
 returns : tie.Need-returns
 unfolding nextOf
-returns c = c .u16-field .ensures
+returns c = c .index-field .ensures
 
 pub next-spec : {M : Type 1} → statement M
-next-spec = tie.close (tie.spec (λ c κs. search needs) (λ c. search needs) returns)
+next-spec = tie.close (tie.spec (λ c κs. search needs) returns)

@@ -3,7 +3,7 @@ use Rattle.records.proofs.u16_field.Statement.{statement}
 use Rattle.records.proofs.u16_field.Tie as tie
 
 returns : tie.Need-returns
-returns c = cc
+returns c = rw (← c .before .before .before .offset .ensures .0) (cc)
 
 pub u16-field-spec : {M : Type 1} → statement M
 u16-field-spec =

@@ -1,23 +1,28 @@
 use borrow.Author.Needs.{needs}
 use native.Mathlib.Omega.{arith}
 use borrow.Author.Tests.{not-true, not-false}
-use Rattle.records.specs.Layout.{narrow}
+use Rattle.records.specs.Layout.{layoutOf}
 use Rattle.records.specs.Records.{firstInterfaceOf}
+use Rattle.itinerary.specs.Inner.{stationRecordsWithin}
 use Rattle.itinerary.proofs.Merge.{Merged, merged-start, merged-end, merged-out, merged-unsound, merged-found, merged-on, merged-skip}
 use Rattle.itinerary.proofs.sound.are_interfaces_sound.Statement.{statement}
 use Rattle.itinerary.proofs.sound.are_interfaces_sound.Tie as tie
 
 abbrev Inv-loop : tie.InvT-loop
-Inv-loop itinerary station-limit table-limit station place₀ index₀ left₀ place index left =
-    Merged narrow itinerary station-limit table-limit (firstInterfaceOf narrow itinerary station) (place .left) (place .station) left index
+Inv-loop form itinerary station-limit table-limit station place₀ index₀ left₀ place index left =
+    Merged (layoutOf form) itinerary (stationRecordsWithin (layoutOf form) itinerary station-limit) table-limit
+    (firstInterfaceOf (layoutOf form) itinerary station) (place .left) (place .station) left index
 
 abbrev μ-loop : tie.MeasureT-loop
-μ-loop itinerary station-limit table-limit station place₀ index₀ left₀ place index left = left
+μ-loop form itinerary station-limit table-limit station place₀ index₀ left₀ place index left = left
 
 loop-holds : tie.Need-loop-holds Inv-loop μ-loop
 loop-holds c =
-    merged-start narrow (c .before .before .before .args .itinerary .now) (c .before .before .before .args .station-limit)
-    (c .before .before .before .args .table-limit) (c .before .before .before .pre) (c .before .next .ensures) (c .first-interface .ensures)
+    let args = c .before .before .before .args in
+    let pre = c .before .before .before .pre in
+    let next = c .before .next in
+    merged-start (layoutOf (args .form)) (args .itinerary .now) (args .station-limit)
+    (args .table-limit) pre (next .ensures) (c .first-interface .ensures)
 
 returns : tie.Need-returns Inv-loop μ-loop
 returns c = merged-end (c .before .before .loop .inv) (c .if1 .taken)

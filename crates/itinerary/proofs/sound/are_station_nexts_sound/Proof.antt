@@ -1,6 +1,6 @@
 use borrow.Author.Needs.{needs}
 use native.Mathlib.Omega.{arith}
-use Rattle.records.specs.Layout.{narrow}
+use Rattle.records.specs.Layout.{layoutOf}
 use Rattle.records.specs.Records.{firstStation}
 use Rattle.itinerary.specs.Itinerary.{nextSound}
 use Rattle.records.proofs.Walks.{Asked, asked-end, asked-out, answered-no, answered-yes}
@@ -8,11 +8,12 @@ use Rattle.itinerary.proofs.sound.are_station_nexts_sound.Statement.{st
 use Rattle.itinerary.proofs.sound.are_station_nexts_sound.Tie as tie
 
 abbrev Inv-loop : tie.InvT-loop
-Inv-loop itinerary station-limit station₀ left₀ station left =
-    Asked narrow itinerary (nextSound narrow itinerary) station-limit (firstStation narrow itinerary) left station
+Inv-loop form itinerary station-limit station₀ left₀ station left =
+    Asked (layoutOf form) itinerary (nextSound (layoutOf form) itinerary) station-limit
+    (firstStation (layoutOf form) itinerary) left station
 
 abbrev μ-loop : tie.MeasureT-loop
-μ-loop itinerary station-limit station₀ left₀ station left = left
+μ-loop form itinerary station-limit station₀ left₀ station left = left
 
 loop-holds : tie.Need-loop-holds Inv-loop μ-loop
 loop-holds c = record { rest = rw (← c .next .ensures) }

@@ -2,27 +2,28 @@ use borrow.Author.Needs.{needs}
 use mathlib.Core.Path.{sym, _∙_}
 use native.Mathlib.Omega.{arith}
 use borrow.Author.Tests.{not-true, not-false}
-use Rattle.records.specs.Layout.{narrow}
+use Rattle.records.specs.Layout.{layoutOf}
 use Rattle.records.specs.Records.{firstStation}
 use Rattle.itinerary.specs.Itinerary.{stationSound}
+use Rattle.itinerary.specs.Inner.{stationRecordsWithin, tableRecordsWithin}
 use Rattle.itinerary.proofs.Merge.{nexts-unsound}
 use Rattle.records.proofs.Walks.{Asked, asked-end, asked-out, answered-no, answered-yes}
 use Rattle.itinerary.proofs.sound.are_stations_sound.Statement.{statement}
 use Rattle.itinerary.proofs.sound.are_stations_sound.Tie as tie
 
 abbrev Inv-loop : tie.InvT-loop
-Inv-loop itinerary station-limit table-limit station₀ left₀ station left =
-    Asked narrow itinerary (stationSound narrow itinerary station-limit table-limit) station-limit
-    (firstStation narrow itinerary) left station
+Inv-loop form itinerary station-limit table-limit station₀ left₀ station left =
+    Asked (layoutOf form) itinerary (stationSound (layoutOf form) itinerary (stationRecordsWithin (layoutOf form) itinerary station-limit)
+    (tableRecordsWithin (layoutOf form) itinerary table-limit)) station-limit
+    (firstStation (layoutOf form) itinerary) left station
 
 abbrev μ-loop : tie.MeasureT-loop
-μ-loop itinerary station-limit table-limit station₀ left₀ station left = left
+μ-loop form itinerary station-limit table-limit station₀ left₀ station left = left
 
 returns : tie.Need-returns Inv-loop μ-loop
 returns c =
     let nexts = sym (c .before .are-station-nexts-sound .ensures) ∙ not-true _ (c .if1 .taken) in
-    nexts-unsound narrow (c .before .before .before .args .itinerary .now) (c .before .before .before .args .station-limit)
-    (c .before .before .before .args .table-limit) _ nexts
+    nexts-unsound (layoutOf (c .before .before .before .args .form)) (c .before .before .before .args .itinerary .now) _ _ nexts
 
 loop-holds : tie.Need-loop-holds Inv-loop μ-loop
 loop-holds c = record { rest = rw (← c .next .ensures) }

@@ -1,16 +1,16 @@
 use borrow.Author.Needs.{needs}
 use mathlib.Core.Path.{refl}
 use native.Mathlib.Omega.{arith}
-use Rattle.records.specs.Layout.{narrow}
+use Rattle.records.specs.Layout.{layoutOf}
 use Rattle.itinerary.proofs.Merge.{Skipped, skipped-end, skipped-out, skipped-here, skipped-on}
 use Rattle.itinerary.proofs.sound.skip_below.Statement.{statement}
 use Rattle.itinerary.proofs.sound.skip_below.Tie as tie
 
 abbrev Inv-loop : tie.InvT-loop
-Inv-loop itinerary index station₀ left₀ station left = Skipped narrow itinerary index left₀ station₀ left station
+Inv-loop form itinerary index station₀ left₀ station left = Skipped (layoutOf form) itinerary index left₀ station₀ left station
 
 abbrev μ-loop : tie.MeasureT-loop
-μ-loop itinerary index station₀ left₀ station left = left
+μ-loop form itinerary index station₀ left₀ station left = left
 
 loop-holds : tie.Need-loop-holds Inv-loop μ-loop
 loop-holds c = record { rest = refl }

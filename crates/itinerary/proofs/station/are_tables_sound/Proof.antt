@@ -1,29 +1,31 @@
 use borrow.Author.Needs.{needs}
 use native.Mathlib.Omega.{arith}
-use Rattle.records.specs.Layout.{narrow}
+use Rattle.records.specs.Layout.{layoutOf}
 use Rattle.records.specs.Records.{firstStation}
+use Rattle.itinerary.specs.Inner.{tableRecordsWithin}
 use Rattle.itinerary.proofs.Stations.{hasSoundTable, tables-by-records}
 use Rattle.records.proofs.Walks.{Asked, asked-end, asked-out, answered-no, answered-yes}
 use Rattle.itinerary.proofs.station.are_tables_sound.Statement.{statement}
 use Rattle.itinerary.proofs.station.are_tables_sound.Tie as tie
 
 abbrev Inv-loop : tie.InvT-loop
-Inv-loop itinerary station-limit station₀ left₀ station left =
-    Asked narrow itinerary (hasSoundTable narrow itinerary 257) station-limit (firstStation narrow itinerary) left station
+Inv-loop form itinerary station-limit station₀ left₀ station left =
+    Asked (layoutOf form) itinerary (hasSoundTable (layoutOf form) itinerary (tableRecordsWithin (layoutOf form) itinerary 257))
+    station-limit (firstStation (layoutOf form) itinerary) left station
 
 abbrev μ-loop : tie.MeasureT-loop
-μ-loop itinerary station-limit station₀ left₀ station left = left
+μ-loop form itinerary station-limit station₀ left₀ station left = left
 
 loop-holds : tie.Need-loop-holds Inv-loop μ-loop
 loop-holds c = record { rest = rw (← c .next .ensures) }
 
 returns : tie.Need-returns Inv-loop μ-loop
-returns c = rw (tables-by-records narrow) (asked-end (c .before .before .loop .inv) (c .if1 .taken))
+returns c = rw (tables-by-records _) (asked-end (c .before .before .loop .inv) (c .if1 .taken))
 
 returns-2 : tie.Need-returns-2 Inv-loop μ-loop
 returns-2 c =
     let sound = c .before .is-table-sound .ensures in
-    rw (tables-by-records narrow)
+    rw (tables-by-records _)
     (answered-no (c .before .before .before .before .loop .inv) (search needs) (c .before .before .if1 .left) sound (c .if2 .taken))
 
 loop-again : tie.Need-loop-again Inv-loop μ-loop
@@ -33,7 +35,7 @@ loop-again c =
     (c .before .if2 .left) (c .next2 .ensures)
 
 returns-3 : tie.Need-returns-3 Inv-loop μ-loop
-returns-3 c = rw (tables-by-records narrow) (asked-out (c .before .loop .inv) (omega arith))
+returns-3 c = rw (tables-by-records _) (asked-out (c .before .loop .inv) (omega arith))
 
 pub are-tables-sound-spec : {M : Type 1} → statement M
 are-tables-sound-spec =

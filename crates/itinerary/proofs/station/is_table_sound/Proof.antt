@@ -1,35 +1,35 @@
 use borrow.Author.Needs.{needs}
 use native.Mathlib.Omega.{arith}
-use Rattle.records.specs.Layout.{narrow}
+use Rattle.records.specs.Layout.{layoutOf}
 use Rattle.records.specs.Records.{firstInterfaceOf}
-use Rattle.itinerary.specs.Itinerary.{stationWithin}
+use Rattle.itinerary.specs.Itinerary.{stationWith}
 use Rattle.records.proofs.Walks.{Entered, entered-end, entered-out, entered-low, entered-state, entered-on}
 use Rattle.itinerary.proofs.station.is_table_sound.Statement.{statement}
 use Rattle.itinerary.proofs.station.is_table_sound.Tie as tie
 
 abbrev Inv-loop : tie.InvT-loop
-Inv-loop itinerary station index₀ left₀ lowest₀ index left lowest =
-    Entered narrow itinerary (firstInterfaceOf narrow itinerary station) lowest left index
+Inv-loop form itinerary station index₀ left₀ lowest₀ index left lowest =
+    Entered (layoutOf form) itinerary (firstInterfaceOf (layoutOf form) itinerary station) lowest left index
 
 abbrev μ-loop : tie.MeasureT-loop
-μ-loop itinerary station index₀ left₀ lowest₀ index left lowest = left
+μ-loop form itinerary station index₀ left₀ lowest₀ index left lowest = left
 
 loop-holds : tie.Need-loop-holds Inv-loop μ-loop
 loop-holds c =
     record { rest = rw (← c .first-interface .ensures); counted = record { rest = rw (← c .first-interface .ensures) (omega arith) } }
 
 returns : tie.Need-returns Inv-loop μ-loop
-unfolding stationWithin
+unfolding stationWith
 returns c = entered-end (c .before .before .loop .inv) (search needs) (c .if1 .taken)
 
 returns-2 : tie.Need-returns-2 Inv-loop μ-loop
-unfolding stationWithin
+unfolding stationWith
 returns-2 c =
     entered-low (c .before .before .before .before .loop .inv) (search needs) (c .before .before .if1 .left)
     (omega (arith, c .before .interface-number .ensures))
 
 returns-3 : tie.Need-returns-3 Inv-loop μ-loop
-unfolding stationWithin
+unfolding stationWith
 returns-3 c =
     let number = c .before .before .before .interface-number .ensures in
     let state = c .before .interface-state .ensures in
@@ -45,7 +45,7 @@ loop-again c =
     on number (c .next .ensures)
 
 returns-4 : tie.Need-returns-4 Inv-loop μ-loop
-unfolding stationWithin
+unfolding stationWith
 returns-4 c = entered-out (c .before .loop .inv) (omega arith)
 
 pub is-table-sound-spec : {M : Type 1} → statement M

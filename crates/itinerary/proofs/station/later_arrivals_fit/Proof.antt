@@ -4,18 +4,18 @@ use mathlib.Core.Bool.{not}
 use native.Mathlib.Omega.{arith}
 use lib.Dec.{eqb}
 use borrow.Author.Tests.{eq-eqb, ne-eqb}
-use Rattle.records.specs.Layout.{narrow}
+use Rattle.records.specs.Layout.{layoutOf}
 use Rattle.records.specs.Records.{arrivalOf}
 use Rattle.records.proofs.Walks.{Asked, asked-end, asked-out, asked-no, asked-yes}
 use Rattle.itinerary.proofs.station.later_arrivals_fit.Statement.{statement}
 use Rattle.itinerary.proofs.station.later_arrivals_fit.Tie as tie
 
 abbrev Inv-loop : tie.InvT-loop
-Inv-loop itinerary second limit station₀ left₀ station left =
-    Asked narrow itinerary (λ i. not (eqb (arrivalOf narrow itinerary i) 0)) limit second left station
+Inv-loop form itinerary second limit station₀ left₀ station left =
+    Asked (layoutOf form) itinerary (λ i. not (eqb (arrivalOf (layoutOf form) itinerary i) 0)) limit second left station
 
 abbrev μ-loop : tie.MeasureT-loop
-μ-loop itinerary second limit station₀ left₀ station left = left
+μ-loop form itinerary second limit station₀ left₀ station left = left
 
 loop-holds : tie.Need-loop-holds Inv-loop μ-loop
 loop-holds c = record { rest = refl }

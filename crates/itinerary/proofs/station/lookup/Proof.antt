@@ -1,29 +1,30 @@
 use borrow.Author.Needs.{needs}
 use mathlib.Core.Path.{sym, _∙_}
 use native.Mathlib.Omega.{arith}
-use Rattle.records.specs.Layout.{narrow}
+use Rattle.records.specs.Layout.{layoutOf}
 use Rattle.records.specs.Records.{recordCount, firstInterfaceOf}
-use Rattle.itinerary.specs.Itinerary.{stationWithin}
+use Rattle.itinerary.specs.Itinerary.{stationWith}
 use Rattle.records.proofs.Walks.{Sought, sought-end, sought-out, sought-here, sought-on}
 use Rattle.itinerary.proofs.station.lookup.Statement.{statement}
 use Rattle.itinerary.proofs.station.lookup.Tie as tie
 
 abbrev Inv-loop : tie.InvT-loop
-Inv-loop itinerary station number index₀ left₀ index left =
-    Sought narrow itinerary number (recordCount narrow itinerary) (firstInterfaceOf narrow itinerary station) left index
+Inv-loop form itinerary station number index₀ left₀ index left =
+    Sought (layoutOf form) itinerary number (recordCount (layoutOf form) itinerary)
+    (firstInterfaceOf (layoutOf form) itinerary station) left index
 
 abbrev μ-loop : tie.MeasureT-loop
-μ-loop itinerary station number index₀ left₀ index left = left
+μ-loop form itinerary station number index₀ left₀ index left = left
 
 loop-holds : tie.Need-loop-holds Inv-loop μ-loop
 loop-holds c = record { rest = rw (← c .before .first-interface .ensures, ← c .record-count .ensures) }
 
 returns : tie.Need-returns Inv-loop μ-loop
-unfolding stationWithin
+unfolding stationWith
 returns c = sought-end (c .before .before .loop .inv) (c .if1 .taken)
 
 returns-2 : tie.Need-returns-2 Inv-loop μ-loop
-unfolding stationWithin
+unfolding stationWith
 returns-2 c =
     let same = sym (c .before .before .interface-number .ensures) ∙ c .before .if2 .taken in
     rw (c .interface-state .ensures)
@@ -36,7 +37,7 @@ loop-again c =
     (λ e. c .before .if2 .left (number ∙ e)) (c .next .ensures)
 
 returns-3 : tie.Need-returns-3 Inv-loop μ-loop
-unfolding stationWithin
+unfolding stationWith
 returns-3 c = sought-out (c .before .loop .inv) (omega arith)
 
 pub lookup-spec : {M : Type 1} → statement M

@@ -2,18 +2,18 @@ use borrow.Author.Needs.{needs}
 use Prim.Native.Nat.{_≤_}
 use mathlib.Core.Path.{sym}
 use native.Mathlib.Omega.{arith}
-use Rattle.records.specs.Layout.{narrow}
+use Rattle.records.specs.Layout.{layoutOf}
 use Rattle.records.specs.Records.{firstStation}
 use Rattle.records.proofs.Walks.{Counted, counted-end, counted-out, counted-on}
 use Rattle.itinerary.proofs.station.station_count.Statement.{statement}
 use Rattle.itinerary.proofs.station.station_count.Tie as tie
 
 abbrev Inv-loop : tie.InvT-loop
-Inv-loop itinerary station-limit station₀ left₀ station left =
-    (left ≤ station-limit) × Counted narrow itinerary station-limit (firstStation narrow itinerary) left station
+Inv-loop form itinerary station-limit station₀ left₀ station left =
+    (left ≤ station-limit) × Counted (layoutOf form) itinerary station-limit (firstStation (layoutOf form) itinerary) left station
 
 abbrev μ-loop : tie.MeasureT-loop
-μ-loop itinerary station-limit station₀ left₀ station left = left
+μ-loop form itinerary station-limit station₀ left₀ station left = left
 
 loop-holds : tie.Need-loop-holds Inv-loop μ-loop
 loop-holds c = (search needs, record { rest = rw (← c .next .ensures) (omega arith) })

@@ -2,18 +2,19 @@ use borrow.Author.Needs.{needs}
 use Prim.Native.Nat.{_-_}
 use mathlib.Core.Path.{_≡_}
 use native.Mathlib.Omega.{arith}
-use Rattle.records.specs.Layout.{narrow}
+use Rattle.records.specs.Layout.{layoutOf}
 use Rattle.records.specs.Records.{recordCount, firstStation}
 use Rattle.records.proofs.Walks.{Passed, passed-end, passed-out, passed-here, passed-on}
 use Rattle.itinerary.proofs.station.station_record.Statement.{statement}
 use Rattle.itinerary.proofs.station.station_record.Tie as tie
 
 abbrev Inv-loop : tie.InvT-loop
-Inv-loop itinerary place station₀ left₀ passed₀ station left passed =
-    Passed narrow itinerary place (recordCount narrow itinerary) (firstStation narrow itinerary) passed left station
+Inv-loop form itinerary place station₀ left₀ passed₀ station left passed =
+    Passed (layoutOf form) itinerary place (recordCount (layoutOf form) itinerary)
+    (firstStation (layoutOf form) itinerary) passed left station
 
 abbrev μ-loop : tie.MeasureT-loop
-μ-loop itinerary place station₀ left₀ passed₀ station left passed = left
+μ-loop form itinerary place station₀ left₀ passed₀ station left passed = left
 
 loop-holds : tie.Need-loop-holds Inv-loop μ-loop
 loop-holds c =

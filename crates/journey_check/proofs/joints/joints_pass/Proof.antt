@@ -2,18 +2,19 @@ use borrow.Author.Needs.{needs}
 use Prim.Native.Nat.{_-_}
 use native.Mathlib.Omega.{arith}
 use Rattle.standard_path.specs.Header.{infos}
-use Rattle.records.specs.Layout.{narrow}
+use Rattle.records.specs.Layout.{layoutOf}
 use Rattle.itinerary.specs.Itinerary.{stations}
 use Rattle.journey.specs.Check.{jointPasses}
-use Rattle.journey_check.proofs.All.{Asked, asked-none, asked-no, asked-yes, asked-all}
+use Rattle.segment_check.proofs.All.{Asked, asked-none, asked-no, asked-yes, asked-all}
 use Rattle.journey_check.proofs.joints.joints_pass.Statement.{statement}
 use Rattle.journey_check.proofs.joints.joints_pass.Tie as tie
 
 abbrev Inv-loop : tie.InvT-loop
-Inv-loop edition itinerary path infos segment₀ segment = Asked (jointPasses edition (stations narrow itinerary) path) (infos - 1) segment
+Inv-loop form edition itinerary path infos segment₀ segment =
+    Asked (jointPasses edition (stations (layoutOf form) itinerary) path) (infos - 1) segment
 
 abbrev μ-loop : tie.MeasureT-loop
-μ-loop edition itinerary path infos segment₀ segment = infos - segment
+μ-loop form edition itinerary path infos segment₀ segment = infos - segment
 
 loop-holds : tie.Need-loop-holds Inv-loop μ-loop
 loop-holds c = asked-none _ _

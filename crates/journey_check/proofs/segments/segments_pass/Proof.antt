@@ -1,60 +1,24 @@
 use borrow.Author.Needs.{needs}
-use Prim.Native.Nat.{_-_}
-use native.Mathlib.Omega.{arith}
-use Rattle.standard_path.specs.Header.{infos}
-use Rattle.records.specs.Layout.{narrow}
-use Rattle.itinerary.specs.Itinerary.{stations}
-use Rattle.journey.specs.Check.{segmentPasses}
-use Rattle.journey_check.proofs.All.{Asked, asked-none, asked-no, asked-yes, asked-all}
+use mathlib.Core.Path.{_∙_}
+use Rattle.journey_check.proofs.Stations.{segments-read}
 use Rattle.journey_check.proofs.segments.segments_pass.Statement.{statement}
 use Rattle.journey_check.proofs.segments.segments_pass.Tie as tie
 
-abbrev Inv-loop : tie.InvT-loop
-Inv-loop edition table itinerary earliest latest path infos segment₀ segment =
-    Asked (segmentPasses edition (stations narrow itinerary) earliest latest path) infos segment
-
-abbrev μ-loop : tie.MeasureT-loop
-μ-loop edition table itinerary earliest latest path infos segment₀ segment = infos - segment
-
-loop-holds : tie.Need-loop-holds Inv-loop μ-loop
-loop-holds c = asked-none _ _
-
-segment-passes-requires : tie.Need-segment-passes-requires Inv-loop μ-loop
-segment-passes-requires c κs =
-    let pre = c .before .before .before .before .before .pre in
-    let info-field-count = c .before .before .info-field-count in
-    (pre .0, (pre .1, omega (arith, info-field-count .ensures)))
-
-returns : tie.Need-returns Inv-loop μ-loop
+returns : tie.Need-returns
 returns c =
-    let info-field-count = c .before .before .before .before .info-field-count in
-    let loop = c .before .before .before .loop in
-    let loop-test = c .before .before .loop-test in
-    rw (← info-field-count .ensures)
-    (asked-no (loop .inv) (loop-test .taken) (c .before .segment-passes .ensures) (c .if1 .taken))
-
-loop-again : tie.Need-loop-again Inv-loop μ-loop
-loop-again c =
-    let loop = c .before .before .before .loop in
-    let loop-test = c .before .before .loop-test in
-    asked-yes (loop .inv) (loop-test .taken) (c .before .segment-passes .ensures) (c .if1 .left)
-
-returns-2 : tie.Need-returns-2 Inv-loop μ-loop
-returns-2 c =
-    let info-field-count = c .before .before .info-field-count in
-    rw (← info-field-count .ensures) (asked-all (c .before .loop .inv) (c .loop-test .left))
+    let pre = c .before .before .before .before .before .before .pre in
+    let first-station = c .before .before .before .first-station in
+    let first-station2 = c .before .before .first-station2 in
+    let first-station3 = c .before .first-station3 in
+    c .segments-fit .ensures
+    ∙ segments-read _ _ _ _ pre _ _ (first-station .ensures) (first-station2 .ensures) (first-station3 .ensures)
 
 pub segments-pass-spec : {M : Type 1} → statement M
 segments-pass-spec =
     tie.close
     (tie.spec
-    Inv-loop
-    μ-loop
     (λ c κs. search needs)
-    loop-holds
-    segment-passes-requires
-    returns
-    (λ c. search needs)
-    (λ c. search needs)
-    loop-again
-    returns-2)
+    (λ c κs. search needs)
+    (λ c κs. search needs)
+    (λ c κs. search needs)
+    returns)

@@ -2,7 +2,6 @@ use borrow.Author.Needs.{needs}
 use mathlib.Core.Path.{sym, _∙_}
 use borrow.Author.Tests.{not-true, not-false}
 use Rattle.octets.proofs.Bools.{first-of}
-use Rattle.records.specs.Layout.{narrow}
 use Rattle.journey.specs.Check.{passes}
 use Rattle.questions.specs.Questions.{asks}
 use Rattle.journey_check.proofs.Stations.{fits-counted}
@@ -45,7 +44,7 @@ passes-requires : tie.Need-passes-requires
 passes-requires c κs =
     let itinerary-fits = c .before .before .before .before .before .itinerary-fits in
     let if1 = c .before .before .before .before .if1 in
-    fits-counted narrow _ _ (first-of _ _ (sym (itinerary-fits .ensures) ∙ not-false (itinerary-fits .result) (if1 .left)))
+    fits-counted _ _ _ (first-of _ _ (sym (itinerary-fits .ensures) ∙ not-false (itinerary-fits .result) (if1 .left)))
 
 returns-4 : tie.Need-returns-4
 unfolding asks
