@@ -17,13 +17,14 @@ use Rattle.fields.specs.Fields.{consDir, segId, timestamp, consEgressAlert, con
 use Rattle.standard_path.specs.Header.{infos, hops, headerSize, infoField, hopField, headerCheck}
 use Rattle.moves.specs.Writes.{setSegId, clearIngressAlert}
 use Rattle.standard_path.specs.declared.view.HeaderCheck.{HeaderCheck}
-use Rattle.standard_path.specs.declared.view.HeaderCheck.the-variants.{Complete, MetaTooShort, DataTooShort, TooManyHops}
+use Rattle.standard_path.specs.declared.view.HeaderCheck.the-variants.{Complete, Failed as Failing}
+use Rattle.standard_path.specs.declared.view.HeaderError.the-variants.{MetaTooShort, DataTooShort, TooManyHops}
 use Rattle.segments.specs.Segments.{segments, segmentCount}
-use Rattle.reverse.specs.Reverse.{reverseNumber, setLengths, swapLengths, toggleConsDir, toggleConsDirs, lastFirst, reverseFields, reverseParts, reversed, reverseAsked, reverseAnswer, bytesLeft, reverseBytes}
+use Rattle.reverse.specs.Reverse.{reverseNumber, setLengths, swapLengths, toggleConsDir, toggleConsDirs, lastFirst, reverseFields, reverseParts, reversed, reverseAnswer, bytesLeft, reverseBytes}
 use Rattle.reverse.specs.declared.Reversal.{Reversal}
 use Rattle.reverse.specs.declared.Reversal.the-variants.{Reversed, Failed}
 use Rattle.interface_table.specs.Table.{idsAscending, statesSound, tableSound, stateOf, linkType, isUp, isAmong, pairAllowed}
-use Rattle.answers.specs.Questions.{firstNo}
+use Rattle.questions.specs.Questions.{asks}
 use Rattle.validator.specs.Check.{MacFunction, macNumber, rightMac, keyMac, atIngress}
 use Rattle.answers.specs.Answer.{refusalNumber, refusalValues}
 use Rattle.answers.specs.declared.LocalAsRoutingAction.the-variants.{IngressSCMPHandleRequest, EgressSCMPHandleRequest, ForwardLocal}
@@ -88,7 +89,7 @@ unfolding encrypted shiftLeft doubled subkey1 blockAt lastBlock chained macWith 
 mac = keyMac key
 
 check : List ℕ → HeaderCheck
-unfolding infos hops headerSize headerCheck
+unfolding asks infos hops headerSize headerCheck
 check path = headerCheck path
 
 fields : List ℕ → ℕ → ℕ → List ℕ
@@ -104,7 +105,7 @@ unfolding idsAscending statesSound tableSound stateOf linkType isUp isAmong pair
 sound = tableSound ids states
 
 came : ℕ → ℕ → Bool → List ℕ → Outcome IngressNextAction
-unfolding mac ended sound firstNo setSegId clearIngressAlert setCurrHf setCurrInf stepped ingressMove ingressAction ingress
+unfolding mac ended sound asks setSegId clearIngressAlert setCurrHf setCurrInf stepped ingressMove ingressAction ingress
 came interface time unchecked path = ingress First ids states (keyMac key) (atIngress interface time unchecked) path
 
 went : ℕ → ℕ → Bool → List ℕ → Outcome StepAnswer
@@ -137,7 +138,7 @@ upDown high low nextHigh nextLow =
 -- ---- a to j
 
 -- (0,0,0) needs 4 bytes
-pub row-a : (headerSize (replicate 4 0) ≡ 4) × (headerCheck (replicate 4 0) ≡ Complete) × (headerCheck (replicate 3 0) ≡ MetaTooShort)
+pub row-a : (headerSize (replicate 4 0) ≡ 4) × (headerCheck (replicate 4 0) ≡ Complete) × (headerCheck (replicate 3 0) ≡ Failing MetaTooShort)
 unfolding check
 row-a = (refl, refl, refl)
 
@@ -145,7 +146,7 @@ row-a = (refl, refl, refl)
 abbrev path-b : ℕ → List ℕ
 path-b more = 0x00 ∷ 0x00 ∷ 0x20 ∷ 0x02 ∷ replicate more 0
 
-pub row-b : (headerSize (path-b 64) ≡ 68) × (headerCheck (path-b 64) ≡ Complete) × (headerCheck (path-b 63) ≡ DataTooShort)
+pub row-b : (headerSize (path-b 64) ≡ 68) × (headerCheck (path-b 64) ≡ Complete) × (headerCheck (path-b 63) ≡ Failing DataTooShort)
 unfolding check
 row-b = (refl, refl, refl)
 
@@ -156,8 +157,8 @@ path-c last more = 0x00 ∷ 0x01 ∷ 0x65 ∷ last ∷ replicate more 0
 pub row-c : (interface time : ℕ) (unchecked : Bool)
     → (headerSize (path-c 0x55 792) ≡ 796)
     × (headerCheck (path-c 0x55 792) ≡ Complete)
-    × (headerCheck (path-c 0x55 791) ≡ DataTooShort)
-    × (headerCheck (path-c 0x56 804) ≡ TooManyHops)
+    × (headerCheck (path-c 0x55 791) ≡ Failing DataTooShort)
+    × (headerCheck (path-c 0x56 804) ≡ Failing TooManyHops)
     × (refusal (goes interface time unchecked (path-c 0x56 804) .answer) ≡ (4, []))
     × (goes interface time unchecked (path-c 0x56 804) .bytes ≡ path-c 0x56 804)
 unfolding went
@@ -258,7 +259,7 @@ failure (Failed why) = reverseNumber why
 failure Reversed = 0
 
 turned : List ℕ → List ℕ
-unfolding check setCurrHf setCurrInf segments segmentCount setLengths swapLengths toggleConsDir toggleConsDirs lastFirst reverseFields reverseParts reversed reverseAsked reverseAnswer bytesLeft reverseBytes
+unfolding check setCurrHf setCurrInf segments segmentCount setLengths swapLengths toggleConsDir toggleConsDirs lastFirst reverseFields reverseParts reversed reverseAnswer bytesLeft reverseBytes
 turned path = reverseBytes path
 
 -- (2,3,0), CurrHF 1, CurrINF 0, reversed: (3,2,0), CurrHF 3, CurrINF 1

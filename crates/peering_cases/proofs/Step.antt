@@ -10,7 +10,7 @@ use Rattle.fields.specs.Fields.{consDir, peering, segId, timestamp, consEgressA
 use Rattle.standard_path.specs.Header.{infos, hops, headerSize, infoField, hopField}
 use Rattle.moves.specs.Writes.{setSegId, clearIngressAlert}
 use Rattle.interface_table.specs.Table.{idsAscending, statesSound, tableSound, stateOf, linkType, isUp, isAmong, pairAllowed}
-use Rattle.answers.specs.Questions.{firstNo}
+use Rattle.questions.specs.Questions.{asks}
 use Rattle.validator.specs.Check.{MacFunction, atIngress, atEgress}
 use Rattle.answers.specs.Answer.{refusalNumber, refusalValues}
 use Rattle.answers.specs.declared.LocalAsRoutingAction.the-variants.{ForwardLocal}
@@ -56,7 +56,7 @@ abbrev goes : MacFunction → Edition → ℕ → List ℕ → Outcome StepAnswe
 goes mac edition interface path = step edition ids states mac interface 1100 true path
 
 went : MacFunction → Edition → ℕ → List ℕ → Outcome StepAnswer
-unfolding fields sound firstNo setSegId clearIngressAlert setCurrHf setCurrInf stepped ingressMove ingressAction ingress peeringForm peeringPlaced egressMove leavingAction egress finished stepFrom step
+unfolding fields sound asks setSegId clearIngressAlert setCurrHf setCurrInf stepped ingressMove ingressAction ingress peeringForm peeringPlaced egressMove leavingAction egress finished stepFrom step
 went mac edition interface path = goes mac edition interface path
 
 abbrev number : StepAnswer → ℕ × List ℕ
