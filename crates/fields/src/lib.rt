@@ -22,7 +22,7 @@ pub fn cons_dir(info: &[u8]) -> bool
     octets::u8_at(info, InfoFieldLayout::FLAGS) % 2 == 1
 }
 
-// The flag P. The step gives it no meaning.
+// The flag P, to which only the second edition gives a meaning.
 pub fn peering(info: &[u8]) -> bool
     ensures { λ r. ⌜ r ≡ peering (now (info .entry)) ⌝ }
 {

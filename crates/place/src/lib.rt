@@ -1,4 +1,4 @@
-// Questions 1 to 8 and 18: whether the step can start, and where the path stands.
+// Questions 1 to 8, 18 and 28: whether the step can start, and where the path stands.
 //
 // Ported from `advance_ingress_with_validator` and `advance_egress_with_validator` in
 // crates/libs/sciparse/src/proto/dataplane_path/standard/routing.rs of Anapaya/scion-sdk at commit 866faf5ba3, and changed:

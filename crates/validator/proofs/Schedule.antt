@@ -10,7 +10,8 @@ use Rattle.cmac.specs.Cmac.{subkey1}
 use Rattle.hop_mac.proofs.HopMac.{hop-mac-from-schedule}
 use Rattle.answers.specs.Questions.{firstNo}
 use Rattle.answers.specs.declared.Validation.{Validation}
-use Rattle.validator.specs.Check.{scheduleMac, keyMac, macQuestions}
+use Rattle.validator.specs.Check.{keyMac, macQuestions}
+use Rattle.validator.specs.Inner.{scheduleMac}
 
 pub schedule-law : (key : List ℕ) {t k1 : List ℕ} {w : List (List ℕ)} → t ≡ roundTable → w ≡ roundKeys key → k1 ≡ subkey1 (cipherBy t w)
     → scheduleMac t w k1 ≡ keyMac key

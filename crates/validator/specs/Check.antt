@@ -4,11 +4,8 @@ use Prim.Native.Nat.{ℕ, _+_, _*_}
 use mathlib.Core.Bool.{Bool, true, false, not, _||_, cond}
 use mathlib.Core.List.{List, [], _∷_, _++_}
 use lib.Dec.{eqb, leb}
-use lib.ListN.{take}
 use Rattle.octets.specs.Bytes.{be16At, be32At}
-use Rattle.aes.specs.ByTable.{cipherBy}
-use Rattle.cmac.specs.Cmac.{macWith}
-use Rattle.hop_mac.specs.Mac.{macInput, hopMac}
+use Rattle.hop_mac.specs.Mac.{hopMac}
 use Rattle.fields.specs.Fields.{consDir, timestamp, expTime, consIngress, consEgress, macField, travelIngress, travelEgress, travelIngressAlert, travelEgressAlert, expiry}
 use Rattle.interface_table.specs.Table.{stateOf, linkType, isUp, pairAllowed}
 use Rattle.interface_table.specs.declared.Listed.{Listed}
@@ -25,10 +22,6 @@ MacFunction = ℕ → ℕ → ℕ → ℕ → ℕ → List ℕ
 -- the hop MAC under a key
 abbrev pub keyMac : List ℕ → MacFunction
 keyMac key = λ segId start units ingress egress. hopMac segId start units ingress egress key
-
--- what the code works out from a lent table, round keys and K1
-abbrev pub scheduleMac : List ℕ → List (List ℕ) → List ℕ → MacFunction
-scheduleMac table roundKeys k1 = λ segId start units ingress egress. take 6 (macWith (cipherBy table roundKeys) k1 (macInput segId start units ingress egress))
 
 -- where the checks are made: at ingress or egress, on which interface, when, and whether MACs are ignored
 abbrev pub atIngress : ℕ → ℕ → Bool → StandardValidator

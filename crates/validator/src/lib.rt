@@ -13,7 +13,8 @@ ghost use mathlib.Core.Bool.{_||_, false};
 ghost use Prim.Native.Nat.{_+_, _*_};
 ghost use lib.Dec.{eqb};
 ghost use Rattle.answers.specs.Questions.{firstNo};
-ghost use Rattle.validator.specs.Check.{scheduleMac, macNumber, interfaceFits, wrongInterface, rightMac};
+ghost use Rattle.validator.specs.Check.{macNumber, interfaceFits, wrongInterface, rightMac};
+ghost use Rattle.validator.specs.Inner.{scheduleMac};
 ghost use Rattle.validator.specs.Check.{fieldQuestions, macQuestions, linkQuestions, changeQuestions};
 
 // Where a hop is checked: at ingress or at egress, on which interface, when, and whether its MAC is not asked for.

@@ -1,5 +1,4 @@
 use borrow.Author.Needs.{needs}
-use borrow.Author.Needs.{needs}
 use mathlib.Core.Path.{refl, sym, _∙_}
 use denote.Ref.{now}
 use Rattle.validator.specs.Check.{keyMac}
@@ -8,30 +7,63 @@ use Rattle.moves.proofs.Lent.{egress-move-lent}
 use Rattle.egress.proofs.Told.{egress-told}
 use Rattle.egress.proofs.advance_egress_with_validator.Statement.{statement}
 use Rattle.egress.proofs.advance_egress_with_validator.Tie as tie
-use Rattle.egress.proofs.advance_egress_with_validator.Reads as reads
-use Rattle.egress.proofs.advance_egress_with_validator.Lts as lts
-use Rattle.edition.proofs.peering_fits.Reads as peering-fits-reads
-use Rattle.egress.proofs.decide_egress.Reads as decide-egress-reads
-use Rattle.fields.proofs.cons_dir.Reads as cons-dir-reads
-use Rattle.moves.proofs.move_egress.Reads as move-egress-reads
-use Rattle.place.proofs.check_before.Reads as check-before-reads
-use Rattle.place.proofs.crosses.Reads as crosses-reads
-use Rattle.place.proofs.locate_egress.Reads as locate-egress-reads
-use Rattle.standard_path.proofs.view.curr_hop_field_idx.Reads as curr-hop-field-idx-reads
-use Rattle.standard_path.proofs.view.curr_info_field.Reads as curr-info-field-reads
-use Rattle.standard_path.proofs.view.hop_field_offset.Reads as hop-field-offset-reads
 
 returns : tie.Need-returns
-returns c = rw (egress-told (c .before .before .before .before .before .before .before .before .args .edition) (now (c .before .before .before .before .before .before .before .before .args .ids)) (now (c .before .before .before .before .before .before .before .before .args .states)) (keyMac (now (c .before .before .before .before .before .before .before .before .args .forwarding-key))) (c .before .before .before .before .before .before .before .before .args .at) (now (c .before .before .before .before .before .before .before .before .args .path)), ← c .before .before .before .check-before .ensures, c .before .why .given .1) (refl, refl)
+returns c =
+    let args = c .before .before .before .before .before .before .before .before .args in
+    let check-before = c .before .before .before .check-before in
+    rw (
+      egress-told (args .edition) (now (args .ids)) (now (args .states)) (keyMac (now (args .forwarding-key))) (args .at) (now
+          (args .path)),
+      ← check-before .ensures,
+      c .before .why .given .1,
+    ) (refl, refl)
 
 returns-2 : tie.Need-returns-2
-returns-2 c = let place = c .before .before .before .locate-egress .ensures ∙ placed-by (c .before .before .before .before .before .before .before .before .before .before .before .before .before .before .before .before .args .edition) (now (c .before .before .before .before .before .before .before .before .before .before .before .before .before .before .before .before .args .path)) (c .before .before .before .before .before .before .before .peering-fits .ensures) (c .before .before .before .before .before .crosses .ensures) in
-    rw (egress-told (c .before .before .before .before .before .before .before .before .before .before .before .before .before .before .before .before .args .edition) (now (c .before .before .before .before .before .before .before .before .before .before .before .before .before .before .before .before .args .ids)) (now (c .before .before .before .before .before .before .before .before .before .before .before .before .before .before .before .before .args .states)) (keyMac (now (c .before .before .before .before .before .before .before .before .before .before .before .before .before .before .before .before .args .forwarding-key))) (c .before .before .before .before .before .before .before .before .before .before .before .before .before .before .before .before .args .at) (now (c .before .before .before .before .before .before .before .before .before .before .before .before .before .before .before .before .args .path)), ← c .before .before .before .before .before .before .before .before .before .before .before .check-before .ensures, c .before .before .before .before .before .before .before .before .before .enum-told .given .1, ← place, c .before .why2 .given .1) (refl, refl)
+returns-2 c =
+    let args = c .before .before .before .before .before .before .before .before .before .before .before .before .before .before .before .before .args in
+    let check-before = c .before .before .before .before .before .before .before .before .before .before .before .check-before in
+    let enum-told = c .before .before .before .before .before .before .before .before .before .enum-told in
+    let peering-fits = c .before .before .before .before .before .before .before .peering-fits in
+    let crosses = c .before .before .before .before .before .crosses in
+    let locate-egress = c .before .before .before .locate-egress in
+    let place = locate-egress .ensures ∙ placed-by (args .edition) (now (args .path)) (peering-fits .ensures) (crosses .ensures) in
+    rw (
+      egress-told (args .edition) (now (args .ids)) (now (args .states)) (keyMac (now (args .forwarding-key))) (args .at) (now
+          (args .path)),
+      ← check-before .ensures,
+      enum-told .given .1,
+      ← place,
+      c .before .why2 .given .1,
+    ) (refl, refl)
 
 returns-3 : tie.Need-returns-3
-returns-3 c = let place = c .before .before .before .before .before .before .before .before .before .before .before .before .before .before .locate-egress .ensures ∙ placed-by (c .before .before .before .before .before .before .before .before .before .before .before .before .before .before .before .before .before .before .before .before .before .before .before .before .before .before .before .args .edition) (now (c .before .before .before .before .before .before .before .before .before .before .before .before .before .before .before .before .before .before .before .before .before .before .before .before .before .before .before .args .path)) (c .before .before .before .before .before .before .before .before .before .before .before .before .before .before .before .before .before .before .peering-fits .ensures) (c .before .before .before .before .before .before .before .before .before .before .before .before .before .before .before .before .crosses .ensures) in
-    rw (egress-told (c .before .before .before .before .before .before .before .before .before .before .before .before .before .before .before .before .before .before .before .before .before .before .before .before .before .before .before .args .edition) (now (c .before .before .before .before .before .before .before .before .before .before .before .before .before .before .before .before .before .before .before .before .before .before .before .before .before .before .before .args .ids)) (now (c .before .before .before .before .before .before .before .before .before .before .before .before .before .before .before .before .before .before .before .before .before .before .before .before .before .before .before .args .states)) (keyMac (now (c .before .before .before .before .before .before .before .before .before .before .before .before .before .before .before .before .before .before .before .before .before .before .before .before .before .before .before .args .forwarding-key))) (c .before .before .before .before .before .before .before .before .before .before .before .before .before .before .before .before .before .before .before .before .before .before .before .before .before .before .before .args .at) (now (c .before .before .before .before .before .before .before .before .before .before .before .before .before .before .before .before .before .before .before .before .before .before .before .before .before .before .before .args .path)), ← c .before .before .before .before .before .before .before .before .before .before .before .before .before .before .before .before .before .before .before .before .before .before .check-before .ensures, c .before .before .before .before .before .before .before .before .before .before .before .before .before .before .before .before .before .before .before .before .enum-told .given .1, ← place, c .before .before .before .before .before .before .before .before .before .before .before .before .enum-told2 .given .1)
-    (c .before .before .before .before .decide-egress .ensures, c .before .before .move-egress .ensures ∙ egress-move-lent (c .before .before .before .before .before .before .before .before .before .before .before .before .before .before .before .before .before .before .before .before .before .before .before .before .before .before .before .args .edition) (now (c .before .before .before .before .before .before .before .before .before .before .before .before .before .before .before .before .before .before .before .before .before .before .before .before .before .before .before .args .path)) (rw (c .before .before .before .before .before .before .before .before .before .before .curr-hop-field-idx .ensures) at (c .before .before .before .before .before .before .before .before .before .hop-field-offset .ensures)) (rw (c .before .before .before .before .before .before .before .curr-info-field .ensures) at (c .before .before .before .before .before .before .cons-dir .ensures)))
+returns-3 c =
+    let args = c .before .before .before .before .before .before .before .before .before .before .before .before .before .before .before .before .before .before .before .before .before .before .before .before .before .before .before .args in
+    let check-before = c .before .before .before .before .before .before .before .before .before .before .before .before .before .before .before .before .before .before .before .before .before .before .check-before in
+    let enum-told = c .before .before .before .before .before .before .before .before .before .before .before .before .before .before .before .before .before .before .before .before .enum-told in
+    let peering-fits = c .before .before .before .before .before .before .before .before .before .before .before .before .before .before .before .before .before .before .peering-fits in
+    let crosses = c .before .before .before .before .before .before .before .before .before .before .before .before .before .before .before .before .crosses in
+    let locate-egress = c .before .before .before .before .before .before .before .before .before .before .before .before .before .before .locate-egress in
+    let enum-told2 = c .before .before .before .before .before .before .before .before .before .before .before .before .enum-told2 in
+    let curr-hop-field-idx = c .before .before .before .before .before .before .before .before .before .before .curr-hop-field-idx in
+    let hop-field-offset = c .before .before .before .before .before .before .before .before .before .hop-field-offset in
+    let curr-info-field = c .before .before .before .before .before .before .before .curr-info-field in
+    let cons-dir = c .before .before .before .before .before .before .cons-dir in
+    let decide-egress = c .before .before .before .before .decide-egress in
+    let place = locate-egress .ensures ∙ placed-by (args .edition) (now (args .path)) (peering-fits .ensures) (crosses .ensures) in
+    rw (
+      egress-told (args .edition) (now (args .ids)) (now (args .states)) (keyMac (now (args .forwarding-key))) (args .at) (now
+          (args .path)),
+      ← check-before .ensures,
+      enum-told .given .1,
+      ← place,
+      enum-told2 .given .1,
+    ) (
+      decide-egress .ensures,
+      c .before .before .move-egress .ensures ∙ egress-move-lent (args .edition) (now (args .path)) (rw
+          (curr-hop-field-idx .ensures) at (hop-field-offset .ensures)) (rw (curr-info-field .ensures) at (cons-dir .ensures)),
+    )
 
 pub advance-egress-with-validator-spec : {M : Type 1} → statement M
 advance-egress-with-validator-spec =

@@ -1,18 +1,21 @@
 use borrow.Author.Needs.{needs}
-use borrow.Author.Needs.{needs}
 use Rattle.answers.proofs.Asked.{asks-told}
 use Rattle.answers.specs.declared.StepAnswer.the-variants.{Refused}
 use Rattle.egress.proofs.decide_egress.Statement.{statement}
 use Rattle.egress.proofs.decide_egress.Tie as tie
-use Rattle.egress.proofs.decide_egress.Reads as reads
-use Rattle.egress.proofs.decide_egress.Lts as lts
-use Rattle.egress.proofs.egress_action.Reads as egress-action-reads
-use Rattle.egress.proofs.validate_egress.Reads as validate-egress-reads
-use Rattle.standard_path.proofs.view.curr_hop_field.Reads as curr-hop-field-reads
-use Rattle.standard_path.proofs.view.curr_info_field.Reads as curr-info-field-reads
 
 returns : tie.Need-returns
-returns c = rw (asks-told Refused, ← c .before .before .validate-egress .ensures, c .enum-told .given .1, ← c .before .before .before .before .before .curr-hop-field .ensures, ← c .before .before .before .before .curr-info-field .ensures) (c .before .before .before .egress-action .ensures)
+returns c =
+    let curr-hop-field = c .before .before .before .before .before .curr-hop-field in
+    let curr-info-field = c .before .before .before .before .curr-info-field in
+    let egress-action = c .before .before .before .egress-action in
+    rw (
+      asks-told Refused,
+      ← c .before .before .validate-egress .ensures,
+      c .enum-told .given .1,
+      ← curr-hop-field .ensures,
+      ← curr-info-field .ensures,
+    ) (egress-action .ensures)
 
 returns-2 : tie.Need-returns-2
 returns-2 c = rw (asks-told Refused, ← c .before .before .before .validate-egress .ensures, c .before .why .given .1)

@@ -1,22 +1,24 @@
 use borrow.Author.Needs.{needs}
-use borrow.Author.Needs.{needs}
 use mathlib.Core.Path.{_∙_}
 use denote.Ref.{now}
 use Rattle.moves.proofs.Lent.{egress-move-lent}
 use Rattle.egress.proofs.egress_inside.Statement.{statement}
 use Rattle.egress.proofs.egress_inside.Tie as tie
-use Rattle.egress.proofs.egress_inside.Reads as reads
-use Rattle.egress.proofs.egress_inside.Lts as lts
-use Rattle.egress.proofs.egress_action.Reads as egress-action-reads
-use Rattle.fields.proofs.cons_dir.Reads as cons-dir-reads
-use Rattle.moves.proofs.move_egress.Reads as move-egress-reads
-use Rattle.standard_path.proofs.view.curr_hop_field.Reads as curr-hop-field-reads
-use Rattle.standard_path.proofs.view.curr_hop_field_idx.Reads as curr-hop-field-idx-reads
-use Rattle.standard_path.proofs.view.curr_info_field.Reads as curr-info-field-reads
-use Rattle.standard_path.proofs.view.hop_field_offset.Reads as hop-field-offset-reads
 
 returns : tie.Need-returns
-returns c = (rw (c .before .before .before .before .before .curr-hop-field .ensures, c .before .before .before .before .before .before .before .curr-info-field .ensures) at (c .before .before .before .before .egress-action .ensures), c .before .before .move-egress .ensures ∙ egress-move-lent (c .before .before .before .before .before .before .before .before .before .before .before .before .before .args .edition) (now (c .before .before .before .before .before .before .before .before .before .before .before .before .before .args .path)) (rw (c .before .before .before .before .before .before .before .before .before .before .curr-hop-field-idx .ensures) at (c .before .before .before .before .before .before .before .before .before .hop-field-offset .ensures)) (rw (c .before .before .before .before .before .before .before .curr-info-field .ensures) at (c .before .before .before .before .before .before .cons-dir .ensures)))
+returns c =
+    let args = c .before .before .before .before .before .before .before .before .before .before .before .before .before .args in
+    let curr-hop-field-idx = c .before .before .before .before .before .before .before .before .before .before .curr-hop-field-idx in
+    let hop-field-offset = c .before .before .before .before .before .before .before .before .before .hop-field-offset in
+    let curr-info-field = c .before .before .before .before .before .before .before .curr-info-field in
+    let cons-dir = c .before .before .before .before .before .before .cons-dir in
+    let curr-hop-field = c .before .before .before .before .before .curr-hop-field in
+    let egress-action = c .before .before .before .before .egress-action in (
+      rw (curr-hop-field .ensures, curr-info-field .ensures) at (egress-action .ensures),
+      c .before .before .move-egress .ensures
+          ∙ egress-move-lent (args .edition) (now (args .path)) (rw (curr-hop-field-idx .ensures) at (hop-field-offset .ensures)) (rw
+          (curr-info-field .ensures) at (cons-dir .ensures)),
+    )
 
 pub egress-inside-spec : {M : Type 1} → statement M
 egress-inside-spec =

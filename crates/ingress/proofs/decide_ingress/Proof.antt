@@ -1,16 +1,13 @@
 use borrow.Author.Needs.{needs}
-use borrow.Author.Needs.{needs}
 use Rattle.answers.proofs.Asked.{asks-told}
 use Rattle.answers.specs.declared.IngressNextAction.the-variants.{Refused}
 use Rattle.ingress.proofs.decide_ingress.Statement.{statement}
 use Rattle.ingress.proofs.decide_ingress.Tie as tie
-use Rattle.ingress.proofs.decide_ingress.Reads as reads
-use Rattle.ingress.proofs.decide_ingress.Lts as lts
-use Rattle.ingress.proofs.ingress_action.Reads as ingress-action-reads
-use Rattle.ingress.proofs.validate_ingress.Reads as validate-ingress-reads
 
 returns : tie.Need-returns
-returns c = rw (asks-told Refused, ← c .before .before .validate-ingress .ensures, c .enum-told .given .1) (c .before .before .before .ingress-action .ensures)
+returns c =
+    let ingress-action = c .before .before .before .ingress-action in
+    rw (asks-told Refused, ← c .before .before .validate-ingress .ensures, c .enum-told .given .1) (ingress-action .ensures)
 
 returns-2 : tie.Need-returns-2
 returns-2 c = rw (asks-told Refused, ← c .before .before .before .validate-ingress .ensures, c .before .why .given .1)

@@ -1,21 +1,23 @@
 use borrow.Author.Needs.{needs}
-use borrow.Author.Needs.{needs}
 use mathlib.Core.Path.{_∙_}
 use denote.Ref.{now}
 use Rattle.moves.proofs.Lent.{ingress-move-lent}
 use Rattle.ingress.proofs.ingress_here.Statement.{statement}
 use Rattle.ingress.proofs.ingress_here.Tie as tie
-use Rattle.ingress.proofs.ingress_here.Reads as reads
-use Rattle.ingress.proofs.ingress_here.Lts as lts
-use Rattle.fields.proofs.cons_dir.Reads as cons-dir-reads
-use Rattle.ingress.proofs.decide_ingress.Reads as decide-ingress-reads
-use Rattle.moves.proofs.move_ingress.Reads as move-ingress-reads
-use Rattle.standard_path.proofs.view.curr_hop_field_idx.Reads as curr-hop-field-idx-reads
-use Rattle.standard_path.proofs.view.curr_info_field.Reads as curr-info-field-reads
-use Rattle.standard_path.proofs.view.hop_field_offset.Reads as hop-field-offset-reads
 
 returns : tie.Need-returns
-returns c = (c .before .before .before .before .decide-ingress .ensures, c .before .before .move-ingress .ensures ∙ ingress-move-lent (c .before .before .before .before .before .before .before .before .before .before .before .before .before .before .before .args .edition) (now (c .before .before .before .before .before .before .before .before .before .before .before .before .before .before .before .args .path)) (rw (c .before .before .before .before .before .before .before .before .before .before .curr-hop-field-idx .ensures) at (c .before .before .before .before .before .before .before .before .before .hop-field-offset .ensures)) (rw (c .before .before .before .before .before .before .before .curr-info-field .ensures) at (c .before .before .before .before .before .before .cons-dir .ensures)) _ (c .before .before .before .before .before .before .before .before .before .before .before .before .before .before .before .args .change))
+returns c =
+    let args = c .before .before .before .before .before .before .before .before .before .before .before .before .before .before .before .args in
+    let curr-hop-field-idx = c .before .before .before .before .before .before .before .before .before .before .curr-hop-field-idx in
+    let hop-field-offset = c .before .before .before .before .before .before .before .before .before .hop-field-offset in
+    let curr-info-field = c .before .before .before .before .before .before .before .curr-info-field in
+    let cons-dir = c .before .before .before .before .before .before .cons-dir in
+    let decide-ingress = c .before .before .before .before .decide-ingress in (
+      decide-ingress .ensures,
+      c .before .before .move-ingress .ensures ∙ ingress-move-lent (args .edition) (now (args .path)) (rw
+          (curr-hop-field-idx .ensures) at (hop-field-offset .ensures)) (rw (curr-info-field .ensures) at (cons-dir .ensures)) _
+          (args .change),
+    )
 
 pub ingress-here-spec : {M : Type 1} → statement M
 ingress-here-spec =

@@ -1,23 +1,23 @@
 use borrow.Author.Needs.{needs}
-use borrow.Author.Needs.{needs}
 use native.Mathlib.Omega.{arith}
 use Rattle.moves.specs.Inner.{ingressMoveAt}
 use Rattle.moves.proofs.move_ingress.Statement.{statement}
 use Rattle.moves.proofs.move_ingress.Tie as tie
-use Rattle.moves.proofs.move_ingress.Reads as reads
-use Rattle.moves.proofs.move_ingress.Lts as lts
-use Rattle.moves.proofs.move_fields.Reads as move-fields-reads
-use Rattle.standard_path.proofs.view.curr_hop_field_idx.Reads as curr-hop-field-idx-reads
-use Rattle.standard_path.proofs.view.curr_info_field_idx.Reads as curr-info-field-idx-reads
-use Rattle.standard_path.proofs.view.set_curr_hop_field.Reads as set-curr-hop-field-reads
-use Rattle.standard_path.proofs.view.set_curr_info_field.Reads as set-curr-info-field-reads
 
 add-next-segment : tie.Need-add-next-segment
 add-next-segment c = omega (arith, c .before .before .before .before .slice-known .given 0)
 
 returns : tie.Need-returns
 unfolding ingressMoveAt
-returns c = rw (c .before .before .before .before .before .before .before .before .if1 .taken) (rw (c .before .before .before .before .before .before .set-curr-hop-field .ensures, c .before .before .before .before .before .before .before .before .before .before .before .move-fields .ensures, c .before .before .before .before .before .before .before .before .before .before .before .before .before .before .before .curr-hop-field-idx .ensures, c .before .before .before .before .before .before .before .before .before .before .before .before .before .curr-info-field-idx .ensures) at (c .before .before .set-curr-info-field .ensures))
+returns c =
+    let curr-hop-field-idx = c .before .before .before .before .before .before .before .before .before .before .before .before .before .before .before .curr-hop-field-idx in
+    let curr-info-field-idx = c .before .before .before .before .before .before .before .before .before .before .before .before .before .curr-info-field-idx in
+    let move-fields = c .before .before .before .before .before .before .before .before .before .before .before .move-fields in
+    let if1 = c .before .before .before .before .before .before .before .before .if1 in
+    let set-curr-hop-field = c .before .before .before .before .before .before .set-curr-hop-field in
+    rw (if1 .taken)
+    (rw (set-curr-hop-field .ensures, move-fields .ensures, curr-hop-field-idx .ensures, curr-info-field-idx .ensures) at
+    (c .before .before .set-curr-info-field .ensures))
 
 returns-2 : tie.Need-returns-2
 unfolding ingressMoveAt

@@ -1,11 +1,6 @@
 use borrow.Author.Needs.{needs}
-use borrow.Author.Needs.{needs}
 use Rattle.moves.proofs.takes_step.Statement.{statement}
 use Rattle.moves.proofs.takes_step.Tie as tie
-use Rattle.moves.proofs.takes_step.Reads as reads
-use Rattle.moves.proofs.takes_step.Lts as lts
-use Rattle.moves.proofs.is_stepped_direction.Reads as is-stepped-direction-reads
-use Rattle.place.proofs.is_peering_hop.Reads as is-peering-hop-reads
 
 returns : tie.Need-returns
 returns c = rw (← c .before .is-peering-hop .ensures, ← c .is-stepped-direction .ensures)

@@ -1,11 +1,7 @@
 use borrow.Author.Needs.{needs}
-use borrow.Author.Needs.{needs}
 use Rattle.reverse.specs.Reverse.{bytesLeft}
 use Rattle.reverse.proofs.leave.Statement.{statement}
 use Rattle.reverse.proofs.leave.Tie as tie
-use Rattle.reverse.proofs.leave.Reads as reads
-use Rattle.reverse.proofs.leave.Lts as lts
-use Rattle.reverse.proofs.swap_lengths.Reads as swap-lengths-reads
 
 returns : tie.Need-returns
 unfolding bytesLeft

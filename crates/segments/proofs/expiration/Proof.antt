@@ -1,21 +1,25 @@
 use borrow.Author.Needs.{needs}
-use borrow.Author.Needs.{needs}
 use mathlib.Core.Path.{sym, ap, _∙_}
 use denote.Ref.{now}
 use Rattle.segments.specs.declared.PathExpiration.the-variants.{At}
 use Rattle.segments.proofs.Expiry.{expiration-asked}
 use Rattle.segments.proofs.expiration.Statement.{statement}
 use Rattle.segments.proofs.expiration.Tie as tie
-use Rattle.segments.proofs.expiration.Reads as reads
-use Rattle.segments.proofs.expiration.Lts as lts
-use Rattle.segments.proofs.path_expiry.Reads as path-expiry-reads
-use Rattle.standard_path.proofs.view.check_header.Reads as check-header-reads
 
 returns : tie.Need-returns
-returns c = rw (expiration-asked (now (c .before .before .before .before .before .args .path)), sym (c .before .before .before .check-header .ensures) ∙ c .before .enum-told .given .1) (ap At (c .path-expiry .ensures))
+returns c =
+    let args = c .before .before .before .before .before .args in
+    let check-header = c .before .before .before .check-header in
+    rw (
+      expiration-asked (now (args .path)),
+      sym (check-header .ensures) ∙ c .before .enum-told .given .1,
+    ) (ap At (c .path-expiry .ensures))
 
 returns-2 : tie.Need-returns-2
-returns-2 c = rw (expiration-asked (now (c .before .before .before .before .before .args .path)), sym (c .before .before .before .check-header .ensures) ∙ c .before .error .given .1)
+returns-2 c =
+    let args = c .before .before .before .before .before .args in
+    let check-header = c .before .before .before .check-header in
+    rw (expiration-asked (now (args .path)), sym (check-header .ensures) ∙ c .before .error .given .1)
 
 pub expiration-spec : {M : Type 1} → statement M
 expiration-spec =

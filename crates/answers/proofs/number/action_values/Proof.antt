@@ -1,10 +1,6 @@
 use borrow.Author.Needs.{needs}
-use borrow.Author.Needs.{needs}
 use Rattle.answers.proofs.number.action_values.Statement.{statement}
 use Rattle.answers.proofs.number.action_values.Tie as tie
-use Rattle.answers.proofs.number.action_values.Reads as reads
-use Rattle.answers.proofs.number.action_values.Lts as lts
-use Rattle.answers.proofs.number.local_values.Reads as local-values-reads
 
 returns : tie.Need-returns
 returns c = rw (c .before .action .given .1)

@@ -1,9 +1,6 @@
 use borrow.Author.Needs.{needs}
-use borrow.Author.Needs.{needs}
 use Rattle.answers.proofs.number.local_values.Statement.{statement}
 use Rattle.answers.proofs.number.local_values.Tie as tie
-use Rattle.answers.proofs.number.local_values.Reads as reads
-use Rattle.answers.proofs.number.local_values.Lts as lts
 
 returns : tie.Need-returns
 returns c = rw (c .enum-told .given .1)

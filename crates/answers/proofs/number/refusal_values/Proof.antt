@@ -1,11 +1,6 @@
 use borrow.Author.Needs.{needs}
-use borrow.Author.Needs.{needs}
 use Rattle.answers.proofs.number.refusal_values.Statement.{statement}
 use Rattle.answers.proofs.number.refusal_values.Tie as tie
-use Rattle.answers.proofs.number.refusal_values.Reads as reads
-use Rattle.answers.proofs.number.refusal_values.Lts as lts
-use Rattle.answers.proofs.number.advance_values.Reads as advance-values-reads
-use Rattle.answers.proofs.number.flag.Reads as flag-reads
 
 returns : tie.Need-returns
 returns c = rw (c .enum-told .given .1)

@@ -1,11 +1,7 @@
 use borrow.Author.Needs.{needs}
-use borrow.Author.Needs.{needs}
 use Rattle.answers.specs.Scmp.{toScmpError}
 use Rattle.answers.proofs.scmp.to_scmp_error.Statement.{statement}
 use Rattle.answers.proofs.scmp.to_scmp_error.Tie as tie
-use Rattle.answers.proofs.scmp.to_scmp_error.Reads as reads
-use Rattle.answers.proofs.scmp.to_scmp_error.Lts as lts
-use Rattle.answers.proofs.scmp.interface_error.Reads as interface-error-reads
 
 returns : tie.Need-returns
 unfolding toScmpError

@@ -1,13 +1,7 @@
 use borrow.Author.Needs.{needs}
-use borrow.Author.Needs.{needs}
 use Rattle.exports.specs.Reply.{expirationReply}
 use Rattle.exports.proofs.reply.expiration_reply.Statement.{statement}
 use Rattle.exports.proofs.reply.expiration_reply.Tie as tie
-use Rattle.exports.proofs.reply.expiration_reply.Reads as reads
-use Rattle.exports.proofs.reply.expiration_reply.Lts as lts
-use Rattle.exports.proofs.reply.number_reply.Reads as number-reply-reads
-use Rattle.exports.proofs.reply.value_reply.Reads as value-reply-reads
-use Rattle.standard_path.proofs.view.header_number.Reads as header-number-reads
 
 returns : tie.Need-returns
 unfolding expirationReply
