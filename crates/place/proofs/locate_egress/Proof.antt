@@ -1,157 +1,181 @@
 use borrow.Author.Needs.{needs}
-use mathlib.Core.Path.{_≡_, sym, _∙_}
-use mathlib.Core.Bool.{Bool, or-true}
+use mathlib.Core.Path.{_≡_, refl, sym, _∙_}
+use mathlib.Core.Bool.{Bool, true, false, or-true}
 use mathlib.Core.List.{List}
-use Prim.Native.Nat.{ℕ, _<_}
+use lib.ListN.{drop}
+use Prim.Native.Nat.{ℕ}
 use borrow.Author.Tests.{lt-ltb, le-ltb, le-leb, lt-leb, eq-eqb, ne-eqb, not-true, not-false}
 use denote.Ref.{now}
 use Rattle.questions.specs.Questions.{asks}
-use Rattle.standard_path.specs.Meta.{currInf, currHf}
-use Rattle.standard_path.specs.Header.{infos}
+use Rattle.standard_path.specs.Meta.{currHf}
 use Rattle.answers.specs.Questions.{firstNo}
-use Rattle.answers.specs.declared.Validation.the-variants.{Valid}
-use Rattle.answers.proofs.Asked.{goes-on}
-use Rattle.place.specs.Place.{placeQuestions}
-use Rattle.place.specs.Inner.{onwardBy, egressPlaceBy}
+use Rattle.answers.specs.declared.AdvanceError.the-variants.{MisplacedPeering, SegmentEnd}
+use Rattle.answers.specs.declared.StandardRoutingError.the-variants.{AdvanceFailed}
+use Rattle.answers.specs.declared.Validation.the-variants.{Valid, Invalid}
+use Rattle.place.specs.Inner.{egressPlaceBy}
 use Rattle.place.proofs.Places.{Lies, lies, lies-nowhere}
 use Rattle.place.proofs.locate_egress.Statement.{statement}
 use Rattle.place.proofs.locate_egress.Tie as tie
 
--- 5, 7 and 8 had a yes, by what was read
-stood : (path : List ℕ) {index actual count : ℕ} {start end : Bool} → Lies path (currHf path) index start end → actual ≡ currInf path
-    → count ≡ infos path → index ≡ actual → actual < count → firstNo (placeQuestions path) ≡ Valid
-unfolding asks
-stood path l a n e inside = rw (l .inside, l .segment, ← a, eq-eqb _ _ e, ← n, lt-ltb _ _ inside)
+-- ---- 28 and 18, by what is lent
 
--- and so the rest decides
-on : (path : List ℕ) (fits crossing : Bool) → firstNo (placeQuestions path) ≡ Valid
-    → firstNo (egressPlaceBy path fits crossing) ≡ firstNo (onwardBy path fits crossing)
-on path fits crossing here = goes-on (placeQuestions path) (onwardBy path fits crossing) here
+module _ (path : List ℕ) (fits crossing : Bool) where
+  fits-yes : fits ≡ true → firstNo (drop 3 (egressPlaceBy path fits crossing)) ≡ firstNo (drop 4 (egressPlaceBy path fits crossing))
+  unfolding asks
+  fits-yes e = rw e refl
+
+  fits-no : fits ≡ false → firstNo (drop 3 (egressPlaceBy path fits crossing)) ≡ Invalid (AdvanceFailed MisplacedPeering)
+  unfolding asks
+  fits-no e = rw e refl
+
+  crossed : crossing ≡ true → firstNo (drop 5 (egressPlaceBy path fits crossing)) ≡ Valid
+  unfolding asks
+  crossed e = rw e refl
+
+  module _ {index : ℕ} {start end : Bool} (l : Lies path (currHf path) index start end) where
+    goes-on : end ≡ false → firstNo (drop 5 (egressPlaceBy path fits crossing)) ≡ Valid
+    unfolding asks
+    goes-on e = rw (l .segment, l .last, e, or-true crossing) refl
+
+    at-end : end ≡ true → crossing ≡ false → firstNo (drop 5 (egressPlaceBy path fits crossing)) ≡ Invalid (AdvanceFailed SegmentEnd)
+    unfolding asks
+    at-end e f = rw (l .segment, l .last, e, f) refl
+
+-- ---- places in the call
+
+abbrev begun : tie.After-hop-field-count → tie.Start
+begun c = c .before .before .before .before
+
+abbrev path : tie.After-hop-field-count → List ℕ
+path c = now (begun c .args .path)
+
+-- what is lent
+abbrev fits : tie.After-hop-field-count → Bool
+fits c = begun c .args .fits
+
+abbrev crossing : tie.After-hop-field-count → Bool
+crossing c = begun c .args .crossing
+
+abbrev hop : tie.After-hop-field-count → tie.After-curr-hop-field-idx
+hop c = c .before .before
+
+-- the hop lies in a segment
+abbrev read : tie.After-index → tie.After-hop-field-count
+read c = c .before .before .before
+
+inside : (c : tie.After-index)
+    → Lies (path (read c)) (currHf (path (read c))) (c .index .given .0 .0) (c .index .given .0 .1 .0) (c .index .given .0 .1 .1 .0)
+inside c =
+    lies (path (read c)) (currHf (path (read c)))
+    (rw (hop (read c) .curr-hop-field-idx .ensures) at (sym (c .before .before .calculate-segment-index .ensures) ∙ c .index .given .1))
+
+-- where its info field is known
+abbrev known : tie.After-curr-info-field-idx → tie.After-index
+known c = c .before .before
+
+-- so many questions were answered yes: the others decide
+abbrev Asked : ℕ → tie.After-curr-info-field-idx → Type 0
+Asked n c =
+    let start = read (known c) in
+    let questions = egressPlaceBy (path start) (fits start) (crossing start) in
+    firstNo questions ≡ firstNo (drop n questions)
+
+asked-7 : (c : tie.Else1) → Asked 2 (c .before)
+unfolding asks
+asked-7 c =
+    let l = inside (known (c .before)) in
+    rw (l .inside, l .segment, ← c .before .curr-info-field-idx .ensures, eq-eqb _ _ (c .if1 .left)) refl
+
+asked-8 : (c : tie.Else2) → Asked 3 (c .before .before)
+unfolding asks
+asked-8 c =
+    let here = c .before .before in
+    asked-7 (c .before)
+    ∙ rw (← here .curr-info-field-idx .ensures, ← read (known here) .before .info-field-count .ensures, lt-ltb _ _ (c .if2 .left)) refl
+
+asked-28 : (c : tie.Else3) → Asked 4 (c .before .before .before)
+unfolding asks
+asked-28 c =
+    let start = read (known (c .before .before .before)) in
+    asked-8 (c .before) ∙ fits-yes (path start) (fits start) (crossing start) (not-false (fits start) (c .if3 .left))
+
+asked-next : (c : tie.Else4) → Asked 5 (c .before .before .before .before)
+unfolding asks
+asked-next c =
+    let start = read (known (c .before .before .before .before)) in
+    asked-28 (c .before)
+    ∙ rw (← start .hop-field-count .ensures, ← hop start .curr-hop-field-idx .ensures, lt-leb _ _ (c .if4 .left)) refl
+
+-- ---- the returns
 
 returns : tie.Need-returns
 unfolding asks
 returns c =
-    let args = c .before .before .before .before .before .before .before .before .args in
-    let curr-hop-field-idx = c .before .before .before .before .before .before .curr-hop-field-idx in
-    let calculate-segment-index = c .before .before .before .calculate-segment-index in
-    rw (lies-nowhere (now (args .path)) (currHf (now (args .path)))
-    (rw (curr-hop-field-idx .ensures) at (sym (calculate-segment-index .ensures) ∙ c .before .enum-told .given .1)))
-    (rw (curr-hop-field-idx .ensures) at (c .refused .ensures))
+    let looked = c .before .before .before in
+    let start = looked .before in
+    rw (lies-nowhere (path start) (currHf (path start))
+    (rw (hop start .curr-hop-field-idx .ensures) at (sym (looked .calculate-segment-index .ensures) ∙ c .before .enum-told .given .1)))
+    (rw (hop start .curr-hop-field-idx .ensures) at (c .refused .ensures))
 
 returns-2 : tie.Need-returns-2
 unfolding asks
 returns-2 c =
-    let args = c .before .before .before .before .before .before .before .before .before .before .before .args in
-    let curr-hop-field-idx = c .before .before .before .before .before .before .before .before .before .curr-hop-field-idx in
-    let calculate-segment-index = c .before .before .before .before .before .before .calculate-segment-index in
-    let index = c .before .before .before .before .index in
-    let l = lies (now (args .path)) (currHf (now (args .path)))
-    (rw (curr-hop-field-idx .ensures) at (sym (calculate-segment-index .ensures) ∙ index .given .1)) in
-    rw (l .inside, l .segment, ← c .before .before .curr-info-field-idx .ensures, ne-eqb _ _ (c .before .if1 .taken)) (c .refused2 .ensures)
+    let here = c .before .before in
+    let l = inside (known here) in
+    rw (l .inside, l .segment, ← here .curr-info-field-idx .ensures, ne-eqb _ _ (c .before .if1 .taken)) (c .refused2 .ensures)
 
 returns-3 : tie.Need-returns-3
 unfolding asks
 returns-3 c =
-    let args = c .before .before .before .before .before .before .before .before .before .before .before .before .args in
-    let curr-hop-field-idx = c .before .before .before .before .before .before .before .before .before .before .curr-hop-field-idx in
-    let info-field-count = c .before .before .before .before .before .before .before .before .before .info-field-count in
-    let calculate-segment-index = c .before .before .before .before .before .before .before .calculate-segment-index in
-    let index = c .before .before .before .before .before .index in
-    let curr-info-field-idx = c .before .before .before .curr-info-field-idx in
-    let l = lies (now (args .path)) (currHf (now (args .path)))
-    (rw (curr-hop-field-idx .ensures) at (sym (calculate-segment-index .ensures) ∙ index .given .1)) in
-    rw (l .inside, l .segment, ← curr-info-field-idx .ensures, eq-eqb _ _ (c .before .before .if1 .left), ← info-field-count .ensures, le-ltb _ _ (c .before .if2 .taken))
-    (c .refused3 .ensures)
+    let here = c .before .before .before in
+    rw (
+      asked-7 (c .before .before),
+      ← here .curr-info-field-idx .ensures,
+      ← read (known here) .before .info-field-count .ensures,
+      le-ltb _ _ (c .before .if2 .taken),
+    ) (c .refused3 .ensures)
 
 returns-4 : tie.Need-returns-4
 unfolding asks
 returns-4 c =
-    let args = c .before .before .before .before .before .before .before .before .before .before .before .before .before .args in
-    let curr-hop-field-idx = c .before .before .before .before .before .before .before .before .before .before .before .curr-hop-field-idx in
-    let info-field-count = c .before .before .before .before .before .before .before .before .before .before .info-field-count in
-    let calculate-segment-index = c .before .before .before .before .before .before .before .before .calculate-segment-index in
-    let index = c .before .before .before .before .before .before .index in
-    let curr-info-field-idx = c .before .before .before .before .curr-info-field-idx in
-    let if1 = c .before .before .before .if1 in
-    let l = lies (now (args .path)) (currHf (now (args .path)))
-    (rw (curr-hop-field-idx .ensures) at (sym (calculate-segment-index .ensures) ∙ index .given .1)) in
-    let here = stood (now (args .path)) l (curr-info-field-idx .ensures) (info-field-count .ensures) (if1 .left) (c .before .before .if2 .left) in
-    rw (on (now (args .path)) (args .fits) (args .crossing) here, not-true (args .fits) (c .before .if3 .taken)) (c .refused4 .ensures)
+    let asked = c .before .before in
+    let start = read (known (asked .before .before)) in
+    c .refused4 .ensures
+    ∙ sym (asked-8 asked ∙ fits-no (path start) (fits start) (crossing start) (not-true (fits start) (c .before .if3 .taken)))
 
 returns-5 : tie.Need-returns-5
 unfolding asks
 returns-5 c =
-    let args = c .before .before .before .before .before .before .before .before .before .before .before .before .before .before .args in
-    let curr-hop-field-idx = c .before .before .before .before .before .before .before .before .before .before .before .before .curr-hop-field-idx in
-    let info-field-count = c .before .before .before .before .before .before .before .before .before .before .before .info-field-count in
-    let hop-field-count = c .before .before .before .before .before .before .before .before .before .before .hop-field-count in
-    let calculate-segment-index = c .before .before .before .before .before .before .before .before .before .calculate-segment-index in
-    let index = c .before .before .before .before .before .before .before .index in
-    let curr-info-field-idx = c .before .before .before .before .before .curr-info-field-idx in
-    let if1 = c .before .before .before .before .if1 in
-    let if2 = c .before .before .before .if2 in
-    let l = lies (now (args .path)) (currHf (now (args .path)))
-    (rw (curr-hop-field-idx .ensures) at (sym (calculate-segment-index .ensures) ∙ index .given .1)) in
-    let here = stood (now (args .path)) l (curr-info-field-idx .ensures) (info-field-count .ensures) (if1 .left) (if2 .left) in
-    rw (on (now (args .path)) (args .fits) (args .crossing) here, not-false (args .fits) (c .before .before .if3 .left))
-    (rw (← hop-field-count .ensures, ← curr-hop-field-idx .ensures, le-leb _ _ (c .before .if4 .taken)) (c .refused5 .ensures))
+    let asked = c .before .before in
+    let start = read (known (asked .before .before .before)) in
+    rw (
+      asked-28 asked,
+      ← start .hop-field-count .ensures,
+      ← hop start .curr-hop-field-idx .ensures,
+      le-leb _ _ (c .before .if4 .taken),
+    ) (c .refused5 .ensures)
 
 returns-6 : tie.Need-returns-6
-unfolding asks
 returns-6 c =
-    let args = c .before .before .before .before .before .before .before .before .before .before .before .before .before .before .before .before .args in
-    let curr-hop-field-idx = c .before .before .before .before .before .before .before .before .before .before .before .before .before .before .curr-hop-field-idx in
-    let info-field-count = c .before .before .before .before .before .before .before .before .before .before .before .before .before .info-field-count in
-    let hop-field-count = c .before .before .before .before .before .before .before .before .before .before .before .before .hop-field-count in
-    let calculate-segment-index = c .before .before .before .before .before .before .before .before .before .before .before .calculate-segment-index in
-    let index = c .before .before .before .before .before .before .before .before .before .index in
-    let curr-info-field-idx = c .before .before .before .before .before .before .before .curr-info-field-idx in
-    let if1 = c .before .before .before .before .before .before .if1 in
-    let if2 = c .before .before .before .before .before .if2 in
-    let if3 = c .before .before .before .before .if3 in
-    let if4 = c .before .before .before .if4 in
-    let l = lies (now (args .path)) (currHf (now (args .path)))
-    (rw (curr-hop-field-idx .ensures) at (sym (calculate-segment-index .ensures) ∙ index .given .1)) in
-    let here = stood (now (args .path)) l (curr-info-field-idx .ensures) (info-field-count .ensures) (if1 .left) (if2 .left) in
-    rw (on (now (args .path)) (args .fits) (args .crossing) here, not-false (args .fits) (if3 .left))
-    (rw (l .segment, l .last, c .before .before .if5 .taken, not-true (args .crossing) (c .before .if6 .taken), ← hop-field-count .ensures, ← curr-hop-field-idx .ensures, lt-leb _ _ (if4 .left)) (c .refused6 .ensures))
+    let asked = c .before .before .before in
+    let found = known (asked .before .before .before .before) in
+    let start = read found in
+    c .refused6 .ensures
+    ∙ sym (asked-next asked
+    ∙ at-end (path start) (fits start) (crossing start) (inside found) (c .before .before .if5 .taken)
+    (not-true (crossing start) (c .before .if6 .taken)))
 
 returns-7 : tie.Need-returns-7
-unfolding asks
 returns-7 c =
-    let args = c .before .before .before .before .before .before .before .before .before .before .before .before .before .before .before .args in
-    let curr-hop-field-idx = c .before .before .before .before .before .before .before .before .before .before .before .before .before .curr-hop-field-idx in
-    let info-field-count = c .before .before .before .before .before .before .before .before .before .before .before .before .info-field-count in
-    let hop-field-count = c .before .before .before .before .before .before .before .before .before .before .before .hop-field-count in
-    let calculate-segment-index = c .before .before .before .before .before .before .before .before .before .before .calculate-segment-index in
-    let index = c .before .before .before .before .before .before .before .before .index in
-    let curr-info-field-idx = c .before .before .before .before .before .before .curr-info-field-idx in
-    let if1 = c .before .before .before .before .before .if1 in
-    let if2 = c .before .before .before .before .if2 in
-    let if3 = c .before .before .before .if3 in
-    let l = lies (now (args .path)) (currHf (now (args .path)))
-    (rw (curr-hop-field-idx .ensures) at (sym (calculate-segment-index .ensures) ∙ index .given .1)) in
-    let here = stood (now (args .path)) l (curr-info-field-idx .ensures) (info-field-count .ensures) (if1 .left) (if2 .left) in
-    rw (on (now (args .path)) (args .fits) (args .crossing) here, not-false (args .fits) (if3 .left))
-    (rw (not-false (args .crossing) (c .if6 .left), ← hop-field-count .ensures, ← curr-hop-field-idx .ensures, lt-leb _ _ (c .before .before .if4 .left)))
+    let asked = c .before .before in
+    let start = read (known (asked .before .before .before .before)) in
+    sym (asked-next asked ∙ crossed (path start) (fits start) (crossing start) (not-false (crossing start) (c .if6 .left)))
 
 returns-8 : tie.Need-returns-8
-unfolding asks
 returns-8 c =
-    let args = c .before .before .before .before .before .before .before .before .before .before .before .before .before .before .args in
-    let curr-hop-field-idx = c .before .before .before .before .before .before .before .before .before .before .before .before .curr-hop-field-idx in
-    let info-field-count = c .before .before .before .before .before .before .before .before .before .before .before .info-field-count in
-    let hop-field-count = c .before .before .before .before .before .before .before .before .before .before .hop-field-count in
-    let calculate-segment-index = c .before .before .before .before .before .before .before .before .before .calculate-segment-index in
-    let index = c .before .before .before .before .before .before .before .index in
-    let curr-info-field-idx = c .before .before .before .before .before .curr-info-field-idx in
-    let if1 = c .before .before .before .before .if1 in
-    let if2 = c .before .before .before .if2 in
-    let l = lies (now (args .path)) (currHf (now (args .path)))
-    (rw (curr-hop-field-idx .ensures) at (sym (calculate-segment-index .ensures) ∙ index .given .1)) in
-    let here = stood (now (args .path)) l (curr-info-field-idx .ensures) (info-field-count .ensures) (if1 .left) (if2 .left) in
-    rw (on (now (args .path)) (args .fits) (args .crossing) here, not-false (args .fits) (c .before .before .if3 .left))
-    (rw (l .segment, l .last, c .if5 .left, or-true (args .crossing), ← hop-field-count .ensures, ← curr-hop-field-idx .ensures, lt-leb _ _ (c .before .if4 .left)))
+    let found = known (c .before .before .before .before .before) in
+    let start = read found in
+    sym (asked-next (c .before) ∙ goes-on (path start) (fits start) (crossing start) (inside found) (c .if5 .left))
 
 pub locate-egress-spec : {M : Type 1} → statement M
 locate-egress-spec =
