@@ -10,7 +10,7 @@ use Rattle.standard_path.specs.Meta.{currInf, currHf, setCurrInf, setCurrHf}
 use Rattle.standard_path.specs.Header.{hopField}
 use Rattle.edition.specs.declared.Edition.{Edition}
 use Rattle.place.specs.Place.{info, crosses}
-use Rattle.moves.specs.Writes.{flagsAt, alertClearedAt}
+use Rattle.writes.specs.Writes.{flagsAt, alertClearedAt}
 use Rattle.moves.specs.Moves.{stepped, takesStep, ingressFields, ingressMove, egressAhead, egressMove}
 use Rattle.moves.specs.Inner.{steppedAt, fieldsAt, ingressMoveAt, aheadAt, egressMoveAt}
 use Rattle.moves.proofs.Touched.{touched, cleared-there}

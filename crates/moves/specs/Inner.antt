@@ -11,7 +11,7 @@ use Rattle.fields.specs.Fields.{segId, macField}
 use Rattle.standard_path.specs.Meta.{currInf, currHf, setCurrInf, setCurrHf}
 use Rattle.edition.specs.declared.Edition.{Edition}
 use Rattle.place.specs.Place.{info, crosses}
-use Rattle.moves.specs.Writes.{setSegId, alertClearedAt}
+use Rattle.writes.specs.Writes.{setSegId, alertClearedAt}
 use Rattle.moves.specs.Moves.{takesStep}
 
 unfoldable pub steppedAt : List ℕ → ℕ → Bool → List ℕ
