@@ -13,7 +13,7 @@ ghost use mathlib.Core.Bool.{not, cond};
 ghost use Rattle.hop_mac.specs.Mac.{macBetaStep};
 ghost use Rattle.fields.specs.Fields.{segId, macField};
 ghost use Rattle.moves.specs.Moves.{takesStep, ingressSegId};
-ghost use Rattle.moves.specs.Inner.{steppedAt, fieldsAt, ingressMoveAt, egressMoveAt};
+ghost use Rattle.moves.specs.Inner.{steppedAt, fieldsAt, ingressMoveAt, indicesAt, egressMoveAt};
 
 // ---- the beta step
 
@@ -92,6 +92,16 @@ pub fn move_ingress(
     }
 }
 
+// CurrHF, and CurrINF where the path crosses into the next segment.
+fn set_indices(path: &mut [u8], hop_index: u8, segment: u8, crossing: bool)
+    ensures { λ _. ⌜ now (path .exit) ≡ indicesAt (now (path .entry)) «hop_index» segment crossing ⌝ }
+{
+    view::set_curr_hop_field(path, hop_index);
+    if crossing {
+        view::set_curr_info_field(path, segment);
+    }
+}
+
 pub fn move_egress(edition: Edition, path: &mut [u8], hop_at: usize, cons_dir: bool)
     ensures { λ _. ⌜ now (path .exit) ≡ egressMoveAt edition (now (path .entry)) «hop_at» «cons_dir» ⌝ }
 {
@@ -101,8 +111,5 @@ pub fn move_egress(edition: Edition, path: &mut [u8], hop_at: usize, cons_dir: b
     let taken = takes_step(edition, path, false, cons_dir);
     beta_step(path, hop_at, taken);
     writes::clear_egress_alert(path, hop_at, cons_dir);
-    view::set_curr_hop_field(path, hop_index + 1);
-    if crossing {
-        view::set_curr_info_field(path, segment + 1);
-    }
+    set_indices(path, hop_index + 1, segment + 1, crossing);
 }

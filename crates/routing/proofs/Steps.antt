@@ -44,8 +44,9 @@ module _ (edition : Edition) (ids states : List ℕ) (mac : MacFunction) (time :
   stays (Refused why) h = refl
   stays (ContinueEgress out) h = absurd (⊎-elim (λ e. omega arith) (λ e. omega arith) h)
 
--- the step after such an ingress, by what is found about the way out and the place
-module _ {edition : Edition} {ids states : List ℕ} {mac : MacFunction} {interface time : ℕ} {unchecked : Bool} {path after : List ℕ} {out here : ℕ}
+-- the step after an ingress that goes on, by what is found of the way out and of the place
+module _ (edition : Edition) (ids states : List ℕ) (mac : MacFunction) (interface time : ℕ) (unchecked : Bool) (path : List ℕ) (out : ℕ)
+    {after : List ℕ} {here : ℕ}
     (continued : ingress edition ids states mac (atIngress interface time unchecked) path .answer ≡ ContinueEgress out)
     (left : after ≡ ingress edition ids states mac (atIngress interface time unchecked) path .bytes)
     (index : here ≡ currHf path) where

@@ -20,7 +20,7 @@ returns-2 c =
     let standard-path-ingress = c .before .before .before .before .before .before .before .before .before .before .standard-path-ingress in
     let next-action = c .before .before .before .before .before .before .next-action in
     let validate-leaving = c .before .before .before .validate-leaving in
-    rw (step-by (sym (standard-path-ingress .ensures .0) ∙ next-action .given .1) (standard-path-ingress .ensures .1)
+    rw (step-by _ _ _ _ _ _ _ _ _ (sym (standard-path-ingress .ensures .0) ∙ next-action .given .1) (standard-path-ingress .ensures .1)
     (curr-hop-field-idx .ensures) (sym (c .before .why .given .1) ∙ validate-leaving .ensures) refl) (refl, refl)
 
 returns-3 : tie.Need-returns-3
@@ -31,7 +31,7 @@ returns-3 c =
     let validate-leaving = c .before .before .before .before .before .before .before .validate-leaving in
     let enum-told = c .before .before .before .before .before .enum-told in
     let validate-place = c .before .before .before .validate-place in
-    rw (step-by (sym (standard-path-ingress .ensures .0) ∙ next-action .given .1) (standard-path-ingress .ensures .1)
+    rw (step-by _ _ _ _ _ _ _ _ _ (sym (standard-path-ingress .ensures .0) ∙ next-action .given .1) (standard-path-ingress .ensures .1)
     (curr-hop-field-idx .ensures) (sym (enum-told .given .1) ∙ validate-leaving .ensures)
     (sym (c .before .why2 .given .1) ∙ validate-place .ensures)) (refl, refl)
 
@@ -44,7 +44,7 @@ returns-4 c =
     let enum-told = c .before .before .before .before .before .before .before .before .enum-told in
     let validate-place = c .before .before .before .before .before .before .validate-place in
     let enum-told2 = c .before .before .before .before .enum-told2 in
-    rw (step-by (sym (standard-path-ingress .ensures .0) ∙ next-action .given .1) (standard-path-ingress .ensures .1)
+    rw (step-by _ _ _ _ _ _ _ _ _ (sym (standard-path-ingress .ensures .0) ∙ next-action .given .1) (standard-path-ingress .ensures .1)
     (curr-hop-field-idx .ensures) (sym (enum-told .given .1) ∙ validate-leaving .ensures)
     (sym (enum-told2 .given .1) ∙ validate-place .ensures))
     (c .before .before .egress-inside .ensures .0, c .before .before .egress-inside .ensures .1)
