@@ -1,4 +1,3 @@
 pub mod Answer
 pub mod Questions
 pub mod Outcome
-pub mod Scmp

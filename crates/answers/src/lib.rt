@@ -1,4 +1,4 @@
-// What the step answers; the number, the values and the SCMP error of each answer are in `number` and `scmp`.
+// What the step answers; the number and the values of each answer are in `number`, its SCMP error in the crate `scmp`.
 //
 // Ported from crates/pocketscion/src/network/scion/routing.rs and routing/spec/standard.rs, and from
 // crates/libs/sciparse/src/proto/dataplane_path/standard/routing.rs, of Anapaya/scion-sdk at commit 866faf5ba3, and changed:
@@ -7,7 +7,6 @@
 // Copyright 2026 Anapaya Systems
 // Licensed under the Apache License, Version 2.0: see NOTICE.
 pub mod number;
-pub mod scmp;
 
 use standard_path::view::HeaderError;
 

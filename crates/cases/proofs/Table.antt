@@ -15,7 +15,7 @@ use Rattle.hop_mac.specs.Mac.{macInput, fullHopMac, hopMac, macBetaStep}
 use Rattle.standard_path.specs.Meta.{setCurrInf, setCurrHf}
 use Rattle.fields.specs.Fields.{consDir, segId, timestamp, consEgressAlert, consIngressAlert, expTime, consIngress, consEgress, macField, travelIngress, travelEgress, travelIngressAlert, travelEgressAlert, expiry}
 use Rattle.standard_path.specs.Header.{infos, hops, headerSize, infoField, hopField, headerCheck}
-use Rattle.moves.specs.Writes.{setSegId, clearIngressAlert}
+use Rattle.writes.specs.Writes.{setSegId, clearIngressAlert}
 use Rattle.standard_path.specs.declared.view.HeaderCheck.{HeaderCheck}
 use Rattle.standard_path.specs.declared.view.HeaderCheck.the-variants.{Complete, Failed as Failing}
 use Rattle.standard_path.specs.declared.view.HeaderError.the-variants.{MetaTooShort, DataTooShort, TooManyHops}
@@ -37,7 +37,7 @@ use Rattle.answers.specs.Outcome.{Outcome}
 use Rattle.moves.specs.Moves.{stepped, ingressMove, egressMove}
 use Rattle.ingress.specs.Ingress.{ingressAction, ingress}
 use Rattle.egress.specs.Egress.{leavingAction, egress}
-use Rattle.routing.specs.Step.{finished, stepFrom, step}
+use Rattle.routing.specs.Step.{stepFrom, step}
 
 -- ---- the AS
 
@@ -109,7 +109,7 @@ unfolding mac ended sound asks setSegId clearIngressAlert setCurrHf setCurrInf s
 came interface time unchecked path = ingress First ids states (keyMac key) (atIngress interface time unchecked) path
 
 went : ℕ → ℕ → Bool → List ℕ → Outcome StepAnswer
-unfolding came egressMove leavingAction egress finished stepFrom step
+unfolding came egressMove leavingAction egress stepFrom step
 went interface time unchecked path = goes interface time unchecked path
 
 -- ---- paths: MACs that are right under the key, each timestamp 1000, each ExpTime 0

@@ -14,7 +14,8 @@ use Rattle.validator.specs.declared.StandardValidator.{StandardValidator}
 use Rattle.edition.specs.declared.Edition.{Edition}
 use Rattle.place.specs.Place.{before, egressPlace}
 use Rattle.moves.specs.Moves.{egressMove}
-use Rattle.egress.specs.Egress.{egressQuestions, egressAction, egress}
+use Rattle.checks.specs.Checks.{egressQuestions}
+use Rattle.egress.specs.Egress.{egressAction, egress}
 
 module _ (edition : Edition) (ids states : List ℕ) (mac : MacFunction) (at : StandardValidator) (path : List ℕ) where
   abbrev pub moved : Outcome StepAnswer

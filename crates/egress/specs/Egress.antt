@@ -4,11 +4,9 @@ use Prim.Native.Nat.{ℕ}
 use mathlib.Core.Bool.{Bool, not, _&&_, cond}
 use mathlib.Core.List.{List}
 use lib.Dec.{eqb}
-use Rattle.standard_path.specs.Meta.{currHf}
-use Rattle.fields.specs.Fields.{consDir, segId, travelEgress, travelEgressAlert}
+use Rattle.fields.specs.Fields.{consDir, travelEgress, travelEgressAlert}
 use Rattle.questions.specs.Questions.{asks}
-use Rattle.answers.specs.Questions.{Questions}
-use Rattle.validator.specs.Check.{MacFunction, hopQuestions}
+use Rattle.validator.specs.Check.{MacFunction}
 use Rattle.validator.specs.declared.StandardValidator.{StandardValidator}
 use Rattle.answers.specs.declared.LocalAsRoutingAction.the-variants.{EgressSCMPHandleRequest}
 use Rattle.answers.specs.declared.AsRoutingAction.the-variants.{Local, ForwardNextHop}
@@ -18,16 +16,13 @@ use Rattle.edition.specs.declared.Edition.{Edition}
 use Rattle.answers.specs.Outcome.{Outcome, leaves}
 use Rattle.place.specs.Place.{before, egressPlace, hop, info}
 use Rattle.moves.specs.Moves.{egressMove}
+use Rattle.checks.specs.Checks.{egressQuestions}
 
--- 19, 10, 11, 12
-abbrev pub egressQuestions : MacFunction → StandardValidator → List ℕ → Questions
-egressQuestions mac at path = hopQuestions mac at (currHf path) (hop path) (info path) (segId (info path))
-
--- of a hop and its info field: an alert is handled if its travel egress is not 0
+-- of a hop field and its info field: an alert is handled if its travel egress is not 0
 unfoldable pub leavingAction : List ℕ → List ℕ → StepAnswer
-leavingAction hop info =
-    let out = travelEgress (consDir info) hop in
-    cond (travelEgressAlert (consDir info) hop && not (eqb out 0))
+leavingAction h i =
+    let out = travelEgress (consDir i) h in
+    cond (travelEgressAlert (consDir i) h && not (eqb out 0))
     (Action (Local (EgressSCMPHandleRequest out)))
     (Action (ForwardNextHop out))
 

@@ -14,35 +14,13 @@ use edition::Edition;
 use hop_mac::ForwardingKey;
 use standard_path::view;
 use validator::StandardValidator;
-use validator::validate_mac;
 ghost use mathlib.Core.Path.{_≡_};
 ghost use Rattle.questions.specs.Questions.{asks};
-ghost use Rattle.answers.specs.Questions.{firstNo};
 ghost use Rattle.answers.specs.declared.StepAnswer.the-variants.{Refused};
 ghost use Rattle.validator.specs.Check.{keyMac};
 ghost use Rattle.moves.specs.Moves.{egressMove};
-ghost use Rattle.egress.specs.Egress.{egressQuestions, leavingAction, egressAction, egress};
-
-// Questions 19, 10, 11 and 12.
-fn validate_egress(forwarding_key: &ForwardingKey, at: StandardValidator, path: &[u8]) -> Validation
-    ensures { λ r. ⌜ r ≡ firstNo (egressQuestions (keyMac (now («forwarding_key» .entry))) at (now (path .entry))) ⌝ }
-{
-    let hop_index = view::curr_hop_field_idx(path);
-    let hop = view::curr_hop_field(path);
-    let info = view::curr_info_field(path);
-    let here = at.validate_hop(hop_index, hop, info);
-    let Validation::Valid = here else {
-        return here;
-    };
-    if at.ignore_macs {
-        return Validation::Valid;
-    }
-    let table = aes::round_table();
-    let round_keys = aes::expand_key(*forwarding_key);
-    let k1 = cmac::subkey_with(&table, round_keys);
-    let segment_id = fields::segment_id(info);
-    validate_mac(&table, round_keys, k1, hop_index, hop, info, segment_id)
-}
+ghost use Rattle.checks.specs.Checks.{egressQuestions};
+ghost use Rattle.egress.specs.Egress.{leavingAction, egressAction, egress};
 
 fn egress_action(hop: &[u8], info: &[u8]) -> StepAnswer
     ensures { λ r. ⌜ r ≡ leavingAction (now (hop .entry)) (now (info .entry)) ⌝ }
@@ -68,10 +46,27 @@ fn decide_egress(forwarding_key: &ForwardingKey, at: StandardValidator, path: &[
         (egressAction (now (path .entry))) ⌝ }
 {
     let action = egress_action(view::curr_hop_field(path), view::curr_info_field(path));
-    match validate_egress(forwarding_key, at, path) {
+    match checks::validate_egress(forwarding_key, at, path) {
         Validation::Valid => action,
         Validation::Invalid(why) => StepAnswer::Refused(why),
     }
+}
+
+fn egress_here(
+    edition: Edition,
+    forwarding_key: &ForwardingKey,
+    at: StandardValidator,
+    path: &mut [u8],
+) -> StepAnswer
+    ensures { λ r. ⌜ r ≡ asks Refused (egressQuestions (keyMac (now («forwarding_key» .entry))) at (now (path .entry)))
+        (egressAction (now (path .entry))) ⌝ }
+    ensures { λ _. ⌜ now (path .exit) ≡ egressMove edition (now (path .entry)) ⌝ }
+{
+    let hop_at = view::hop_field_offset(path, view::curr_hop_field_idx(path));
+    let cons_dir = fields::cons_dir(view::curr_info_field(path));
+    let answer = decide_egress(forwarding_key, at, path);
+    moves::move_egress(edition, path, hop_at, cons_dir);
+    answer
 }
 
 // The egress half, with a validator.
@@ -96,11 +91,7 @@ pub fn advance_egress_with_validator(
     if let Validation::Invalid(why) = place::locate_egress(path, fits, crossing) {
         return StepAnswer::Refused(why);
     }
-    let hop_at = view::hop_field_offset(path, view::curr_hop_field_idx(path));
-    let cons_dir = fields::cons_dir(view::curr_info_field(path));
-    let answer = decide_egress(forwarding_key, at, path);
-    moves::move_egress(edition, path, hop_at, cons_dir);
-    answer
+    egress_here(edition, forwarding_key, at, path)
 }
 
 // The egress half inside the whole step, where the path is known to stand. An ingress that went on has had a yes to 1 to 4 and to 10 to 12

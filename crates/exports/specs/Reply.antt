@@ -12,15 +12,15 @@ use Rattle.reverse.specs.Reverse.{reverseNumber}
 use Rattle.reverse.specs.declared.Reversal.{Reversal}
 use Rattle.reverse.specs.declared.Reversal.the-variants.{Reversed, Failed}
 use Rattle.answers.specs.Answer.{refusalNumber, refusalValues, actionNumber, actionValues, fourValues, flag}
-use Rattle.answers.specs.Scmp.{toScmpError, scmpValues}
+use Rattle.scmp.specs.Scmp.{toScmpError, scmpValues}
 use Rattle.answers.specs.declared.StandardRoutingError.{StandardRoutingError}
 use Rattle.answers.specs.declared.AsRoutingAction.{AsRoutingAction}
 use Rattle.answers.specs.declared.IngressNextAction.{IngressNextAction}
 use Rattle.answers.specs.declared.IngressNextAction.the-variants as ingress
 use Rattle.answers.specs.declared.StepAnswer.{StepAnswer}
 use Rattle.answers.specs.declared.StepAnswer.the-variants.{Action, Refused}
-use Rattle.answers.specs.declared.scmp.ScmpError.{ScmpError}
-use Rattle.answers.specs.declared.scmp.ScmpError.the-variants.{NoMessage}
+use Rattle.scmp.specs.declared.ScmpError.{ScmpError}
+use Rattle.scmp.specs.declared.ScmpError.the-variants.{NoMessage}
 use Rattle.journey.specs.Verdict.{journeyNumber}
 use Rattle.journey.specs.declared.answer.Verdict.{Verdict}
 use Rattle.journey.specs.declared.answer.Verdict.the-variants as verdict

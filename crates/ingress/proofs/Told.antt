@@ -14,7 +14,8 @@ use Rattle.validator.specs.declared.StandardValidator.{StandardValidator}
 use Rattle.edition.specs.declared.Edition.{Edition}
 use Rattle.place.specs.Place.{before, ingressPlace, changes, isFinal}
 use Rattle.moves.specs.Moves.{ingressMove}
-use Rattle.ingress.specs.Ingress.{ingressQuestions, ingressAction, ingress}
+use Rattle.checks.specs.Checks.{ingressQuestions}
+use Rattle.ingress.specs.Ingress.{ingressAction, ingress}
 
 module _ (edition : Edition) (ids states : List ℕ) (mac : MacFunction) (at : StandardValidator) (path : List ℕ) where
   abbrev pub moved : Outcome IngressNextAction

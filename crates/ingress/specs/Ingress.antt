@@ -1,14 +1,12 @@
 -- 01, 'Questions in order' and 'standard/routing.rs': the ingress half, its answer and every byte that it leaves.
 -- Assumes nothing.
-use Prim.Native.Nat.{ℕ, _+_}
+use Prim.Native.Nat.{ℕ}
 use mathlib.Core.Bool.{Bool, not, _&&_, cond}
-use mathlib.Core.List.{List, [], _++_}
+use mathlib.Core.List.{List}
 use lib.Dec.{eqb}
-use Rattle.standard_path.specs.Meta.{currHf}
-use Rattle.fields.specs.Fields.{consDir, segId, travelIngress, travelEgress, travelIngressAlert}
+use Rattle.fields.specs.Fields.{consDir, travelIngress, travelEgress, travelIngressAlert}
 use Rattle.questions.specs.Questions.{asks}
-use Rattle.answers.specs.Questions.{Questions}
-use Rattle.validator.specs.Check.{MacFunction, fieldQuestions, macQuestions, hopQuestions, changeQuestions}
+use Rattle.validator.specs.Check.{MacFunction}
 use Rattle.validator.specs.declared.StandardValidator.{StandardValidator}
 use Rattle.answers.specs.declared.LocalAsRoutingAction.the-variants.{IngressSCMPHandleRequest, ForwardLocal}
 use Rattle.answers.specs.declared.AsRoutingAction.the-variants.{Local}
@@ -17,25 +15,8 @@ use Rattle.answers.specs.declared.IngressNextAction.the-variants.{ContinueEgres
 use Rattle.edition.specs.declared.Edition.{Edition}
 use Rattle.answers.specs.Outcome.{Outcome, leaves}
 use Rattle.place.specs.Place.{before, ingressPlace, hop, info, nextHop, nextInfo, isFinal, changes}
-use Rattle.moves.specs.Moves.{ingressSegId, ingressMove}
-
--- ---- 9 to 12, and at a segment change 13 to 16 and 9 to 12 for the next hop
-
--- 13 to 16, and 9 to 11 for the next hop
-abbrev pub nextFieldQuestions : List ℕ → List ℕ → StandardValidator → List ℕ → Questions
-nextFieldQuestions ids states at path =
-    changeQuestions ids states (currHf path) (hop path) (info path) (nextHop path) (nextInfo path)
-    ++ fieldQuestions at (currHf path + 1) (nextHop path) (nextInfo path)
-
-abbrev pub nextQuestions : List ℕ → List ℕ → MacFunction → StandardValidator → List ℕ → Questions
-nextQuestions ids states mac at path =
-    nextFieldQuestions ids states at path
-    ++ macQuestions mac (at .«ignore_macs») (currHf path + 1) (nextHop path) (nextInfo path) (segId (nextInfo path))
-
-abbrev pub ingressQuestions : Edition → List ℕ → List ℕ → MacFunction → StandardValidator → List ℕ → Bool → Questions
-ingressQuestions edition ids states mac at path change =
-    hopQuestions mac at (currHf path) (hop path) (info path) (ingressSegId edition path (at .«current_interface_id»))
-    ++ cond change (nextQuestions ids states mac at path) []
+use Rattle.moves.specs.Moves.{ingressMove}
+use Rattle.checks.specs.Checks.{ingressQuestions}
 
 -- ---- what is done with the packet
 

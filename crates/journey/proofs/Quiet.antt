@@ -12,7 +12,7 @@ use lib.Seq.{set-getD}
 use Rattle.standard_path.specs.Meta.{currInf, currHf, setCurrHf, setCurrInf}
 use Rattle.fields.specs.Fields.{consDir, consIngressAlert, consEgressAlert, travelIngressAlert, travelEgressAlert}
 use Rattle.standard_path.specs.Header.{infos, hopField}
-use Rattle.moves.specs.Writes.{flagsAt, withoutIngress, withoutEgress, clearIngressAlert}
+use Rattle.writes.specs.Writes.{flagsAt, withoutIngress, withoutEgress, clearIngressAlert}
 use Rattle.standard_path.proofs.Kept.{hop-byte}
 use Rattle.edition.specs.declared.Edition.{Edition}
 use Rattle.place.specs.Place.{isPeeringHop, crosses, hop, info}

@@ -28,7 +28,8 @@ use Rattle.edition.specs.declared.Edition.{Edition}
 use Rattle.edition.specs.Edition.{peeringPath}
 use Rattle.place.specs.Place.{before, hop, info, nextHop, nextInfo}
 use Rattle.moves.specs.Moves.{ingressSegId, ingressFields, ingressMove, egressMove}
-use Rattle.ingress.specs.Ingress.{alertsAtIngress, ingressQuestions}
+use Rattle.checks.specs.Checks.{ingressQuestions}
+use Rattle.ingress.specs.Ingress.{alertsAtIngress}
 use Rattle.egress.specs.Egress.{leavingAction, egressAction}
 use Rattle.routing.specs.Step.{leavingQuestions}
 use Rattle.moves.proofs.Touched.{ingress-fields-moved}

@@ -10,9 +10,9 @@ use Rattle.standard_path.specs.Meta.{currInf, currHf, setCurrInf, setCurrHf}
 use Rattle.standard_path.specs.Header.{hopField}
 use Rattle.edition.specs.declared.Edition.{Edition}
 use Rattle.place.specs.Place.{info, crosses}
-use Rattle.moves.specs.Writes.{flagsAt, alertClearedAt}
+use Rattle.writes.specs.Writes.{flagsAt, alertClearedAt}
 use Rattle.moves.specs.Moves.{stepped, takesStep, ingressFields, ingressMove, egressAhead, egressMove}
-use Rattle.moves.specs.Inner.{steppedAt, fieldsAt, ingressMoveAt, aheadAt, egressMoveAt}
+use Rattle.moves.specs.Inner.{steppedAt, fieldsAt, ingressMoveAt, indicesAt, egressMoveAt}
 use Rattle.moves.proofs.Touched.{touched, cleared-there}
 
 module _ (edition : Edition) (path : List ℕ) {at : ℕ} {c : Bool} (here : at ≡ flagsAt path (currHf path)) (dir : c ≡ consDir (info path)) where
@@ -39,5 +39,5 @@ module _ (edition : Edition) (path : List ℕ) {at : ℕ} {c : Bool} (here : at 
   ingress-move-lent interface change = rw (fields-lent interface)
 
   pub egress-move-lent : egressMoveAt edition path at c ≡ egressMove edition path
-  unfolding egressMoveAt egressMove
+  unfolding indicesAt egressMoveAt egressMove
   egress-move-lent = rw (cleared-lent (takesStep edition path false c) (not c), dir)

@@ -1,4 +1,2 @@
-pub mod SegIdSet
-pub mod AlertCleared
 pub mod Touched
 pub mod Lent

@@ -11,10 +11,10 @@ use Rattle.fields.specs.Layout.{infoOffset}
 use Rattle.standard_path.specs.Meta.{currInf, currHf}
 use Rattle.fields.specs.Fields.{consDir, peering, segId, timestamp, expTime, consIngress, consEgress, macField}
 use Rattle.standard_path.specs.Header.{infos, infoField, hopField}
-use Rattle.moves.specs.Writes.{flagsAt, alertClearedAt, clearIngressAlert}
+use Rattle.writes.specs.Writes.{flagsAt, alertClearedAt, clearIngressAlert}
 use Rattle.standard_path.proofs.Kept.{Kept, kept-self, kept-trans, infos-kept}
-use Rattle.moves.proofs.SegIdSet.{seg-id-kept, seg-id-curr-inf, seg-id-curr-hf, seg-id-hop, seg-id-cons-dir, seg-id-peering, seg-id-timestamp, seg-id-info-other, seg-id-after}
-use Rattle.moves.proofs.AlertCleared.{alert-kept, alert-curr-inf, alert-curr-hf, alert-info, alert-hop-other, alert-exp-time, alert-cons-ingress, alert-cons-egress, alert-mac}
+use Rattle.writes.proofs.SegIdSet.{seg-id-kept, seg-id-curr-inf, seg-id-curr-hf, seg-id-hop, seg-id-cons-dir, seg-id-peering, seg-id-timestamp, seg-id-info-other, seg-id-after}
+use Rattle.writes.proofs.AlertCleared.{alert-kept, alert-curr-inf, alert-curr-hf, alert-info, alert-hop-other, alert-exp-time, alert-cons-ingress, alert-cons-egress, alert-mac}
 use Rattle.edition.specs.declared.Edition.{Edition}
 use Rattle.place.specs.Place.{isPeeringHop, hop, info}
 use Rattle.moves.specs.Moves.{stepped, steppedSegId, ingressSegId, ingressFields}

@@ -11,7 +11,7 @@ use Rattle.fields.specs.Fields.{segId, macField}
 use Rattle.standard_path.specs.Meta.{currInf, currHf, setCurrInf, setCurrHf}
 use Rattle.edition.specs.declared.Edition.{Edition}
 use Rattle.place.specs.Place.{info, crosses}
-use Rattle.moves.specs.Writes.{setSegId, alertClearedAt}
+use Rattle.writes.specs.Writes.{setSegId, alertClearedAt}
 use Rattle.moves.specs.Moves.{takesStep}
 
 unfoldable pub steppedAt : List ℕ → ℕ → Bool → List ℕ
@@ -28,9 +28,12 @@ ingressMoveAt edition path interface change at c =
     (setCurrInf (setCurrHf (fieldsAt edition path interface at c) (currHf path + 1)) (currInf path + 1))
     (fieldsAt edition path interface at c)
 
-abbrev pub aheadAt : Edition → List ℕ → ℕ → Bool → List ℕ
-aheadAt edition path at c =
-    setCurrHf (alertClearedAt (steppedAt path at (takesStep edition path false c)) at (not c)) (currHf path + 1)
+abbrev pub clearedAt : Edition → List ℕ → ℕ → Bool → List ℕ
+clearedAt edition path at c = alertClearedAt (steppedAt path at (takesStep edition path false c)) at (not c)
+
+-- CurrHF set, and CurrINF where the path crosses
+unfoldable pub indicesAt : List ℕ → ℕ → ℕ → Bool → List ℕ
+indicesAt path hop segment crossing = cond crossing (setCurrInf (setCurrHf path hop) segment) (setCurrHf path hop)
 
 unfoldable pub egressMoveAt : Edition → List ℕ → ℕ → Bool → List ℕ
-egressMoveAt edition path at c = cond (crosses edition path) (setCurrInf (aheadAt edition path at c) (currInf path + 1)) (aheadAt edition path at c)
+egressMoveAt edition path at c = indicesAt (clearedAt edition path at c) (currHf path + 1) (currInf path + 1) (crosses edition path)

@@ -9,7 +9,7 @@ use Rattle.fields.specs.Fields.{consDir, segId, macField}
 use Rattle.standard_path.specs.Meta.{currInf, currHf, setCurrInf, setCurrHf}
 use Rattle.edition.specs.declared.Edition.{Edition}
 use Rattle.place.specs.Place.{hop, info, isPeeringHop, crosses}
-use Rattle.moves.specs.Writes.{setSegId, clearIngressAlert, clearEgressAlert}
+use Rattle.writes.specs.Writes.{setSegId, clearIngressAlert, clearEgressAlert}
 
 -- the SegID after a beta step of the current hop
 abbrev pub steppedSegId : List ℕ → ℕ

@@ -1,5 +1,4 @@
-// How each half of the step moves the path, on all inputs: a store past the end does nothing. What a move needs of the header is read
-// before the checks, where it is at hand.
+// How each half of the step moves the path, on all inputs. What a move needs of the header is read before the checks, where it is at hand.
 //
 // Ported from `advance_ingress_with_validator` and `advance_egress_with_validator` in
 // crates/libs/sciparse/src/proto/dataplane_path/standard/routing.rs and from view.rs beside it, of Anapaya/scion-sdk at commit
@@ -7,54 +6,14 @@
 // Copyright 2026 Anapaya Systems
 // Licensed under the Apache License, Version 2.0: see NOTICE.
 use edition::Edition;
-use fields::layout::InfoFieldLayout;
 use hop_mac::mac_beta_step;
 use standard_path::view;
 ghost use mathlib.Core.Path.{_≡_};
 ghost use mathlib.Core.Bool.{not, cond};
 ghost use Rattle.hop_mac.specs.Mac.{macBetaStep};
-ghost use Rattle.fields.specs.Fields.{byDirection, segId, macField};
-ghost use Rattle.moves.specs.Writes.{setSegId, withoutEgress, withoutIngress, alertClearedAt};
+ghost use Rattle.fields.specs.Fields.{segId, macField};
 ghost use Rattle.moves.specs.Moves.{takesStep, ingressSegId};
-ghost use Rattle.moves.specs.Inner.{steppedAt, fieldsAt, ingressMoveAt, egressMoveAt};
-
-// ---- what is written
-
-// The SegID of the info field with this index.
-pub fn set_segment_id(path: &mut [u8], index: u8, value: u16)
-    ensures { λ _. ⌜ now (path .exit) ≡ setSegId (now (path .entry)) index value ⌝ }
-{
-    let at = InfoFieldLayout::offset(index);
-    let high = InfoFieldLayout::SEGMENT_ID as usize;
-    octets::put_byte(path, at + high, (value / 0x100) as u8);
-    octets::put_byte(path, at + (high + 1), (value % 0x100) as u8);
-}
-
-// The flags without the ConsIngress alert, or without the ConsEgress alert.
-fn without_alert(flags: u8, ingress: bool) -> u8
-    ensures { λ r. ⌜ r ≡ byDirection ingress (withoutIngress flags) (withoutEgress flags) ⌝ }
-{
-    if ingress {
-        flags - flags / 2 % 2 * 2
-    } else {
-        flags - flags % 2
-    }
-}
-
-// The travel-ingress alert of the hop field that starts at a place, and its travel-egress alert.
-pub fn clear_ingress_alert(path: &mut [u8], at: usize, cons_dir: bool)
-    ensures { λ _. ⌜ now (path .exit) ≡ alertClearedAt (now (path .entry)) at «cons_dir» ⌝ }
-{
-    let flags = octets::byte_at(path, at);
-    octets::put_byte(path, at, without_alert(flags, cons_dir));
-}
-
-// Which alert it is turns round with the direction.
-pub fn clear_egress_alert(path: &mut [u8], at: usize, cons_dir: bool)
-    ensures { λ _. ⌜ now (path .exit) ≡ alertClearedAt (now (path .entry)) at (not «cons_dir») ⌝ }
-{
-    clear_ingress_alert(path, at, !cons_dir);
-}
+ghost use Rattle.moves.specs.Inner.{steppedAt, fieldsAt, ingressMoveAt, indicesAt, egressMoveAt};
 
 // ---- the beta step
 
@@ -97,7 +56,7 @@ fn beta_step(path: &mut [u8], hop_at: usize, taken: bool)
         let segment = view::curr_info_field_idx(path);
         let hop = view::hop_field_at(path, hop_at);
         let segment_id = stepped_segment_id(hop, view::curr_info_field(path));
-        set_segment_id(path, segment, segment_id);
+        writes::set_segment_id(path, segment, segment_id);
     }
 }
 
@@ -111,7 +70,7 @@ fn move_fields(edition: Edition, path: &mut [u8], interface: u16, hop_at: usize,
     }
     let taken = takes_step(edition, path, true, cons_dir);
     beta_step(path, hop_at, taken);
-    clear_ingress_alert(path, hop_at, cons_dir);
+    writes::clear_ingress_alert(path, hop_at, cons_dir);
 }
 
 pub fn move_ingress(
@@ -133,6 +92,16 @@ pub fn move_ingress(
     }
 }
 
+// CurrHF, and CurrINF where the path crosses into the next segment.
+fn set_indices(path: &mut [u8], hop_index: u8, segment: u8, crossing: bool)
+    ensures { λ _. ⌜ now (path .exit) ≡ indicesAt (now (path .entry)) «hop_index» segment crossing ⌝ }
+{
+    view::set_curr_hop_field(path, hop_index);
+    if crossing {
+        view::set_curr_info_field(path, segment);
+    }
+}
+
 pub fn move_egress(edition: Edition, path: &mut [u8], hop_at: usize, cons_dir: bool)
     ensures { λ _. ⌜ now (path .exit) ≡ egressMoveAt edition (now (path .entry)) «hop_at» «cons_dir» ⌝ }
 {
@@ -141,9 +110,6 @@ pub fn move_egress(edition: Edition, path: &mut [u8], hop_at: usize, cons_dir: b
     let crossing = place::crosses(edition, path);
     let taken = takes_step(edition, path, false, cons_dir);
     beta_step(path, hop_at, taken);
-    clear_egress_alert(path, hop_at, cons_dir);
-    view::set_curr_hop_field(path, hop_index + 1);
-    if crossing {
-        view::set_curr_info_field(path, segment + 1);
-    }
+    writes::clear_egress_alert(path, hop_at, cons_dir);
+    set_indices(path, hop_index + 1, segment + 1, crossing);
 }

@@ -8,7 +8,7 @@ use Rattle.hop_mac.specs.Mac.{macBetaStep}
 use Rattle.standard_path.specs.Meta.{setCurrInf, setCurrHf}
 use Rattle.fields.specs.Fields.{consDir, peering, segId, timestamp, consEgressAlert, consIngressAlert, expTime, consIngress, consEgress, macField, travelIngress, travelEgress, travelIngressAlert, travelEgressAlert, expiry}
 use Rattle.standard_path.specs.Header.{infos, hops, headerSize, infoField, hopField}
-use Rattle.moves.specs.Writes.{setSegId, clearIngressAlert}
+use Rattle.writes.specs.Writes.{setSegId, clearIngressAlert}
 use Rattle.interface_table.specs.Table.{idsAscending, statesSound, tableSound, stateOf, linkType, isUp, isAmong, pairAllowed}
 use Rattle.questions.specs.Questions.{asks}
 use Rattle.validator.specs.Check.{MacFunction, atIngress, atEgress}
@@ -26,7 +26,7 @@ use Rattle.edition.specs.Edition.{peeringForm, peeringPlaced}
 use Rattle.moves.specs.Moves.{stepped, ingressMove, egressMove}
 use Rattle.ingress.specs.Ingress.{ingressAction, ingress}
 use Rattle.egress.specs.Egress.{leavingAction, egress}
-use Rattle.routing.specs.Step.{finished, stepFrom, step}
+use Rattle.routing.specs.Step.{stepFrom, step}
 
 abbrev ids : List ℕ
 ids = 1 ∷ 2 ∷ []
@@ -56,7 +56,7 @@ abbrev goes : MacFunction → Edition → ℕ → List ℕ → Outcome StepAnswe
 goes mac edition interface path = step edition ids states mac interface 1100 true path
 
 went : MacFunction → Edition → ℕ → List ℕ → Outcome StepAnswer
-unfolding fields sound asks setSegId clearIngressAlert setCurrHf setCurrInf stepped ingressMove ingressAction ingress peeringForm peeringPlaced egressMove leavingAction egress finished stepFrom step
+unfolding fields sound asks setSegId clearIngressAlert setCurrHf setCurrInf stepped ingressMove ingressAction ingress peeringForm peeringPlaced egressMove leavingAction egress stepFrom step
 went mac edition interface path = goes mac edition interface path
 
 abbrev number : StepAnswer → ℕ × List ℕ

@@ -18,7 +18,7 @@ ghost use Rattle.standard_path.specs.Header.{headerQuestions};
 ghost use Rattle.answers.specs.Questions.{firstNo};
 ghost use Rattle.answers.specs.declared.StandardRoutingError.the-variants.{HeaderFailed};
 ghost use Rattle.edition.specs.Edition.{peeringQuestions};
-ghost use Rattle.place.specs.Place.{before, ingressPlace, changes, crosses, isFinal, isPeeringHop};
+ghost use Rattle.place.specs.Place.{before, nextHop, nextInfo, ingressPlace, changes, crosses, isFinal, isPeeringHop};
 ghost use Rattle.place.specs.Inner.{located, egressPlaceBy};
 
 // Where the path stands: whether its hop makes a segment change, and whether it is the path's last.
@@ -78,6 +78,19 @@ pub fn crosses(edition: Edition, path: &[u8]) -> bool
     ensures { λ r. ⌜ r ≡ crosses edition (now (path .entry)) ⌝ }
 {
     edition::is_first_peering_hop(edition, path, view::curr_hop_field_idx(path))
+}
+
+// The hop field after the current one, and the info field after the current one.
+pub fn next_hop_field(path: &[u8]) -> &[u8]
+    ensures { λ r. ⌜ now r ≡ nextHop (now (path .entry)) ⌝ }
+{
+    view::hop_field(path, view::curr_hop_field_idx(path) + 1)
+}
+
+pub fn next_info_field(path: &[u8]) -> &[u8]
+    ensures { λ r. ⌜ now r ≡ nextInfo (now (path .entry)) ⌝ }
+{
+    view::info_field(path, view::curr_info_field_idx(path) + 1)
 }
 
 // Question 28, and then where the path stands.

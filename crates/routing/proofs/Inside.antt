@@ -37,8 +37,9 @@ use Rattle.egress.proofs.Told.{egress-all-told}
 use Rattle.edition.specs.Edition.{peeringPath, peeringQuestions}
 use Rattle.place.specs.Place.{before, segment, ends, isFinal, isPeeringHop, crosses, changes, ingressPlace, wayQuestions, egressPlace, hop, info, nextHop, nextInfo}
 use Rattle.moves.specs.Moves.{ingressSegId, ingressFields, ingressMove, egressMove}
-use Rattle.ingress.specs.Ingress.{ingressQuestions, alertsAtIngress, leaving, ingressAction, ingress}
-use Rattle.egress.specs.Egress.{egressQuestions, egressAction, egress}
+use Rattle.checks.specs.Checks.{ingressQuestions, egressQuestions}
+use Rattle.ingress.specs.Ingress.{alertsAtIngress, leaving, ingressAction, ingress}
+use Rattle.egress.specs.Egress.{egressAction, egress}
 use Rattle.routing.proofs.Moved.{Holds, asked-alike, ingress-move-holds}
 use Rattle.edition.proofs.Peering.{peering-lengths, peering-path-kept, questions-kept}
 use Rattle.moves.proofs.Touched.{SameHop, same-hop, SameInfo, same-info, FieldsMoved, ingress-fields-moved}

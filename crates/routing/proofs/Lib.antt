@@ -1,3 +1,3 @@
-pub mod Steps
 pub mod Moved
 pub mod Inside
+pub mod Steps

@@ -12,10 +12,10 @@ use Rattle.standard_path.specs.Meta.{currInf, currHf, setCurrInf, setCurrHf}
 use Rattle.fields.specs.Fields.{consDir, peering}
 use Rattle.standard_path.specs.Header.{infos, hops, headerSize, infoField, headerQuestions}
 use Rattle.questions.specs.Questions.{within}
-use Rattle.moves.specs.Writes.{clearIngressAlert}
+use Rattle.writes.specs.Writes.{clearIngressAlert}
 use Rattle.standard_path.proofs.Kept.{Kept, kept-self, kept-trans, infos-kept, hops-kept, header-size-kept, header-check-kept}
-use Rattle.moves.proofs.SegIdSet.{seg-id-kept, seg-id-past}
-use Rattle.moves.proofs.AlertCleared.{alert-kept, alert-past, alert-info}
+use Rattle.writes.proofs.SegIdSet.{seg-id-kept, seg-id-past}
+use Rattle.writes.proofs.AlertCleared.{alert-kept, alert-past, alert-info}
 use Rattle.standard_path.proofs.IndexSet.{set-hf-kept, set-hf-past, set-hf-info, set-inf-kept, set-inf-past, set-inf-info}
 use Rattle.answers.specs.Questions.{firstNo}
 use Rattle.validator.specs.Check.{MacFunction, atIngress, atEgress}

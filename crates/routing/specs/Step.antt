@@ -14,7 +14,6 @@ use Rattle.validator.specs.declared.StandardValidator.{StandardValidator}
 use Rattle.answers.specs.declared.StandardRoutingError.the-variants.{UnknownEgressInterface, EgressInterfaceDown}
 use Rattle.answers.specs.declared.IngressNextAction.{IngressNextAction}
 use Rattle.answers.specs.declared.IngressNextAction.the-variants.{ContinueEgress, Complete, Refused as Stopped}
-use Rattle.answers.specs.declared.AsRoutingAction.the-variants.{ForwardNextHop}
 use Rattle.answers.specs.declared.StepAnswer.{StepAnswer}
 use Rattle.answers.specs.declared.StepAnswer.the-variants.{Action, Refused}
 use Rattle.edition.specs.declared.Edition.{Edition}
@@ -36,17 +35,11 @@ leave edition ids states mac at path =
     asks (leaves Refused path) (leavingQuestions (stateOf ids states (at .«current_interface_id»)) (at .«current_interface_id») path)
     (egress edition ids states mac at path)
 
--- the answer of an ingress that does not go on. `stepFrom` asks it of no other; the last line is there since a function has to answer
-unfoldable pub finished : IngressNextAction → StepAnswer
-finished (Complete action) = Action action
-finished (Stopped why) = Refused why
-finished (ContinueEgress out) = Action (ForwardNextHop out)
-
 -- from what ingress answered, on the bytes that it left
 unfoldable pub stepFrom : Edition → IngressNextAction → List ℕ → List ℕ → MacFunction → ℕ → Bool → List ℕ → Outcome StepAnswer
 stepFrom edition (ContinueEgress out) ids states mac time ignored path = leave edition ids states mac (atEgress out time ignored) path
-stepFrom edition (Complete action) ids states mac time ignored path = record { answer = finished (Complete action); bytes = path }
-stepFrom edition (Stopped why) ids states mac time ignored path = record { answer = finished (Stopped why); bytes = path }
+stepFrom edition (Complete action) ids states mac time ignored path = record { answer = Action action; bytes = path }
+stepFrom edition (Stopped why) ids states mac time ignored path = record { answer = Refused why; bytes = path }
 
 -- the whole step of an AS on a path, in an edition: its table, the hop MAC under its key, the interface that the packet came in by, the time
 unfoldable pub step : Edition → List ℕ → List ℕ → MacFunction → ℕ → ℕ → Bool → List ℕ → Outcome StepAnswer

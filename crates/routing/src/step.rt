@@ -26,7 +26,8 @@ ghost use Rattle.place.specs.Place.{egressPlace};
 ghost use Rattle.ingress.specs.Ingress.{ingress};
 ghost use Rattle.egress.specs.Egress.{egress};
 ghost use Rattle.validator.specs.Check.{keyMac, atIngress, atEgress};
-ghost use Rattle.routing.specs.Step.{leavingQuestions, finished, step};
+ghost use Rattle.routing.specs.Step.{leavingQuestions, step};
+ghost use Rattle.routing.specs.Inner.{finished};
 
 // ---- the halves
 

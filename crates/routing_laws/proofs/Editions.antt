@@ -24,7 +24,7 @@ use Rattle.place.specs.Place.{before, ingressPlace, placeQuestions}
 use Rattle.moves.specs.Moves.{ingressMove, egressMove}
 use Rattle.ingress.specs.Ingress.{ingress}
 use Rattle.egress.specs.Egress.{egress}
-use Rattle.routing.specs.Step.{finished, stepFrom, step}
+use Rattle.routing.specs.Step.{stepFrom, step}
 use Rattle.routing.proofs.Moved.{ingress-holds}
 use Rattle.edition.proofs.Peering.{Plain, plain-kept}
 
@@ -99,7 +99,7 @@ pub step-misplaced : (ids states : List ℕ) (mac : MacFunction) (interface time
     → step Second ids states mac interface time unchecked path
     ≡ asks (leaves Stopped path) (before ids states path)
     (asks (leaves Stopped path) (ingressPlace First path) (leaves Stopped path misplaced))
-unfolding step stepFrom finished
+unfolding step stepFrom
 step-misplaced ids states mac interface time unchecked path e =
     rw (ingress-misplaced ids states mac (atIngress interface time unchecked) path e)
     (from (before ids states path) _ _ (from (ingressPlace First path) _ _ refl))

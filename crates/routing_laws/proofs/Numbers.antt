@@ -11,8 +11,7 @@ use Rattle.validator.specs.Check.{MacFunction, hopQuestions, changeQuestions, a
 use Rattle.edition.specs.declared.Edition.{Edition}
 use Rattle.edition.specs.declared.Edition.the-variants.{First, Second}
 use Rattle.place.specs.Place.{before, ingressPlace, egressPlace}
-use Rattle.ingress.specs.Ingress.{ingressQuestions}
-use Rattle.egress.specs.Egress.{egressQuestions}
+use Rattle.checks.specs.Checks.{ingressQuestions, egressQuestions}
 use Rattle.routing.specs.Step.{leavingQuestions}
 
 -- the number for a no to each question

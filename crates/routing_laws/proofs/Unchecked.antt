@@ -1,4 +1,5 @@
--- With MACs ignored no answer and no byte depends on them.
+-- With MACs ignored no answer and no byte depends on a MAC that is worked out, and so none on the key. They do depend on the MAC field of
+-- the path: a beta step takes its first two bytes.
 -- Assumes nothing.
 use mathlib.Core.Path.{_≡_, refl}
 use mathlib.Core.Bool.{Bool, true, false}
@@ -7,10 +8,11 @@ use Prim.Native.Nat.{ℕ}
 use Rattle.questions.specs.Questions.{asks}
 use Rattle.answers.specs.declared.IngressNextAction.{IngressNextAction}
 use Rattle.answers.specs.declared.IngressNextAction.the-variants.{ContinueEgress, Complete, Refused}
-use Rattle.validator.specs.Check.{MacFunction, atIngress, atEgress}
+use Rattle.validator.specs.Check.{MacFunction, keyMac, atIngress, atEgress}
 use Rattle.edition.specs.declared.Edition.{Edition}
 use Rattle.place.specs.Place.{changes, isFinal}
-use Rattle.ingress.specs.Ingress.{ingressQuestions, ingressAction, ingress}
+use Rattle.checks.specs.Checks.{ingressQuestions}
+use Rattle.ingress.specs.Ingress.{ingressAction, ingress}
 use Rattle.egress.specs.Egress.{egress}
 use Rattle.routing.specs.Step.{stepFrom, step}
 
@@ -44,3 +46,8 @@ step-unchecked edition ids states mac other interface time path =
     go (ContinueEgress out) bytes = rw (egress-unchecked edition ids states mac other out time bytes)
     go (Complete action) bytes = refl
     go (Refused why) bytes = refl
+
+-- whatever the key
+pub step-any-key : (edition : Edition) (ids states key another : List ℕ) (interface time : ℕ) (path : List ℕ)
+    → step edition ids states (keyMac key) interface time true path ≡ step edition ids states (keyMac another) interface time true path
+step-any-key edition ids states key another = step-unchecked edition ids states (keyMac key) (keyMac another)

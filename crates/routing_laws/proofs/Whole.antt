@@ -20,10 +20,11 @@ use Rattle.answers.specs.Outcome.{Outcome, leaves}
 use Rattle.answers.proofs.Asked.{told, asks-told}
 use Rattle.ingress.proofs.Told.{ingress-all-told}
 use Rattle.place.specs.Place.{before, isFinal, changes, ingressPlace}
-use Rattle.ingress.specs.Ingress.{ingressQuestions, alertsAtIngress, leaving, ingressAction, ingress}
+use Rattle.checks.specs.Checks.{ingressQuestions}
+use Rattle.ingress.specs.Ingress.{alertsAtIngress, leaving, ingressAction, ingress}
 use Rattle.moves.specs.Moves.{ingressMove, egressMove}
 use Rattle.egress.specs.Egress.{egressAction, egress}
-use Rattle.routing.specs.Step.{leavingQuestions, finished, stepFrom, step}
+use Rattle.routing.specs.Step.{leavingQuestions, stepFrom, step}
 use Rattle.routing.proofs.Inside.{insideQuestions, egress-after}
 
 module _ (edition : Edition) (ids states : List ℕ) (mac : MacFunction) (interface time : ℕ) (unchecked : Bool) (path : List ℕ) where
@@ -57,7 +58,7 @@ module _ (edition : Edition) (ids states : List ℕ) (mac : MacFunction) (interf
       ≡ told (leaves Refused path) (firstNo (before ids states path))
       (told (leaves Refused path) (firstNo (ingressPlace edition path))
       (told (leaves Refused entered) (firstNo checks) (acted (alertsAtIngress path interface) (isFinal path))))
-  unfolding step stepFrom finished ingressAction
+  unfolding step stepFrom ingressAction
   step-asks =
       rw (ingress-all-told edition ids states mac (atIngress interface time unchecked) path)
       (go (firstNo (before ids states path)) refl (firstNo (ingressPlace edition path)) refl (firstNo checks) refl

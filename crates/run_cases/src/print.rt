@@ -5,10 +5,9 @@ use answers::LocalAsRoutingAction;
 use answers::StandardRoutingError;
 use answers::StepAnswer;
 use answers::number;
-use answers::scmp;
-use answers::scmp::ScmpError;
 use libc::STDOUT_FILENO;
 use reverse::Reversal;
+use scmp::ScmpError;
 use segments::PathExpiration;
 
 pub(crate) fn put(text: &[u8]) {

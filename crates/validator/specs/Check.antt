@@ -21,7 +21,7 @@ MacFunction = ℕ → ℕ → ℕ → ℕ → ℕ → List ℕ
 
 -- the hop MAC under a key
 abbrev pub keyMac : List ℕ → MacFunction
-keyMac key = λ segId start units ingress egress. hopMac segId start units ingress egress key
+keyMac key = λ beta start units into out. hopMac beta start units into out key
 
 -- where the checks are made: at ingress or egress, on which interface, when, and whether MACs are ignored
 abbrev pub atIngress : ℕ → ℕ → Bool → StandardValidator

@@ -10,4 +10,4 @@ use Rattle.hop_mac.specs.Mac.{macInput}
 use Rattle.validator.specs.Check.{MacFunction}
 
 abbrev pub scheduleMac : List ℕ → List (List ℕ) → List ℕ → MacFunction
-scheduleMac table roundKeys k1 = λ segId start units ingress egress. take 6 (macWith (cipherBy table roundKeys) k1 (macInput segId start units ingress egress))
+scheduleMac table roundKeys k1 = λ beta start units into out. take 6 (macWith (cipherBy table roundKeys) k1 (macInput beta start units into out))

@@ -3,7 +3,6 @@ use mathlib.Core.Path.{refl, sym, _∙_}
 use denote.Ref.{now}
 use Rattle.validator.specs.Check.{keyMac}
 use Rattle.place.proofs.Places.{placed-by}
-use Rattle.moves.proofs.Lent.{egress-move-lent}
 use Rattle.egress.proofs.Told.{egress-told}
 use Rattle.egress.proofs.advance_egress_with_validator.Statement.{statement}
 use Rattle.egress.proofs.advance_egress_with_validator.Tie as tie
@@ -39,18 +38,14 @@ returns-2 c =
 
 returns-3 : tie.Need-returns-3
 returns-3 c =
-    let args = c .before .before .before .before .before .before .before .before .before .before .before .before .before .before .before .before .before .before .before .before .before .before .before .before .before .before .before .args in
-    let check-before = c .before .before .before .before .before .before .before .before .before .before .before .before .before .before .before .before .before .before .before .before .before .before .check-before in
-    let enum-told = c .before .before .before .before .before .before .before .before .before .before .before .before .before .before .before .before .before .before .before .before .enum-told in
-    let peering-fits = c .before .before .before .before .before .before .before .before .before .before .before .before .before .before .before .before .before .before .peering-fits in
-    let crosses = c .before .before .before .before .before .before .before .before .before .before .before .before .before .before .before .before .crosses in
-    let locate-egress = c .before .before .before .before .before .before .before .before .before .before .before .before .before .before .locate-egress in
-    let enum-told2 = c .before .before .before .before .before .before .before .before .before .before .before .before .enum-told2 in
-    let curr-hop-field-idx = c .before .before .before .before .before .before .before .before .before .before .curr-hop-field-idx in
-    let hop-field-offset = c .before .before .before .before .before .before .before .before .before .hop-field-offset in
-    let curr-info-field = c .before .before .before .before .before .before .before .curr-info-field in
-    let cons-dir = c .before .before .before .before .before .before .cons-dir in
-    let decide-egress = c .before .before .before .before .decide-egress in
+    let args = c .before .before .before .before .before .before .before .before .before .before .before .before .before .before .before .before .before .before .before .args in
+    let check-before = c .before .before .before .before .before .before .before .before .before .before .before .before .before .before .check-before in
+    let enum-told = c .before .before .before .before .before .before .before .before .before .before .before .before .enum-told in
+    let peering-fits = c .before .before .before .before .before .before .before .before .before .before .peering-fits in
+    let crosses = c .before .before .before .before .before .before .before .before .crosses in
+    let locate-egress = c .before .before .before .before .before .before .locate-egress in
+    let enum-told2 = c .before .before .before .before .enum-told2 in
+    let egress-here = c .before .before .egress-here in
     let place = locate-egress .ensures ∙ placed-by (args .edition) (now (args .path)) (peering-fits .ensures) (crosses .ensures) in
     rw (
       egress-told (args .edition) (now (args .ids)) (now (args .states)) (keyMac (now (args .forwarding-key))) (args .at) (now
@@ -59,11 +54,7 @@ returns-3 c =
       enum-told .given .1,
       ← place,
       enum-told2 .given .1,
-    ) (
-      decide-egress .ensures,
-      c .before .before .move-egress .ensures ∙ egress-move-lent (args .edition) (now (args .path)) (rw
-          (curr-hop-field-idx .ensures) at (hop-field-offset .ensures)) (rw (curr-info-field .ensures) at (cons-dir .ensures)),
-    )
+    ) (egress-here .ensures .0, egress-here .ensures .1)
 
 pub advance-egress-with-validator-spec : {M : Type 1} → statement M
 advance-egress-with-validator-spec =
@@ -81,11 +72,6 @@ advance-egress-with-validator-spec =
     (λ c. search needs)
     returns-2
     (λ c. search needs)
-    (λ c κs. search needs)
-    (λ c κs. search needs)
-    (λ c κs. search needs)
-    (λ c κs. search needs)
-    (λ c κs. search needs)
     (λ c κs. search needs)
     (λ c. search needs)
     returns-3)

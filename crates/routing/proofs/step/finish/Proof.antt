@@ -1,5 +1,5 @@
 use borrow.Author.Needs.{needs}
-use Rattle.routing.specs.Step.{finished}
+use Rattle.routing.specs.Inner.{finished}
 use Rattle.routing.proofs.step.finish.Statement.{statement}
 use Rattle.routing.proofs.step.finish.Tie as tie
 

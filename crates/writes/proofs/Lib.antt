@@ -1,0 +1,2 @@
+pub mod SegIdSet
+pub mod AlertCleared
