@@ -1,33 +1,35 @@
-"""Reads the lines of `sample` and compares each with the model of crates/run_cases/expected.py.
+"""Reads the lines of `sample` and compares each with the model of crates/run_cases/models/step.py.
 
     cargo run --profile checked --bin sample 100000 100 | python3 cases/compare.py
 """
+import pathlib
 import sys
 
-import model
+sys.dont_write_bytecode = True
+sys.path.insert(0, str(pathlib.Path(__file__).parents[2] / "crates" / "run_cases" / "models"))
+import step
 
-NAMES = model.load()
 STEPS = {
-    "step": NAMES["go_through"],
-    "ingress": lambda *inputs: NAMES["go_in"](*inputs)[0],
-    "egress": NAMES["go_out"],
+    "step": step.go_through,
+    "ingress": lambda *inputs: step.go_in(*inputs)[0],
+    "egress": step.go_out,
 }
-OTHERS = {"reverse": NAMES["turn_around"], "expiration": NAMES["expiration_of"]}
+OTHERS = {"reverse": step.turn_around, "expiration": step.expiration_of}
 
 
 def answer(call, path, *inputs):
-    """As `put_line` of the model has it."""
+    """As `sample` has it."""
     try:
         return STEPS[call](path, *inputs) if call in STEPS else OTHERS[call](path)
-    except NAMES["No"] as no:
-        return "refused " + " ".join(map(str, no.args)) + (NAMES["scmp"](*no.args) if call in STEPS else "")
+    except step.No as no:
+        return "refused " + " ".join(map(str, no.args)) + (step.scmp(*no.args) if call in STEPS else "")
 
 
 compared = differences = 0
 for line in sys.stdin:
     call, path, ids, states, interface, time, key, ignore_macs, expected, left = line.rstrip("\n").split("\t")
     path = bytearray.fromhex(path)
-    NAMES["KEY"] = bytes.fromhex(key)
+    step.KEY = bytes.fromhex(key)
     inputs = list(map(int, ids.split())), list(map(int, states.split())), int(interface), int(time), ignore_macs == "1"
     found = answer(call, path, *inputs)
     compared += 1

@@ -1,154 +1,170 @@
-// Each open call with a line for it: the call, the label, the answer and the bytes left.
+// The exported calls, each with its answer written out.
 use crate::print;
-use edition::Edition;
-use routing::step;
+use exports::calls;
+use exports::editions;
 
-// RFC 4493's key.
-const KEY: [u8; 16] = *b"\x2b\x7e\x15\x16\x28\xae\xd2\xa6\xab\xf7\x15\x88\x09\xcf\x4f\x3c";
-
-// 1 and 2 to children, 3 to a parent, each up.
-const IDS: [u16; 3] = [1, 2, 3];
-
-const STATES: [u8; 3] = *b"\x06\x06\x05";
-
-fn put_label(call: &[u8], label: &[u8]) {
-    print::put(call);
-    print::put(b", ");
-    print::put(label);
-    print::put(b": ");
+// What a call's line says: interface and time, or the earliest and the latest reading, or the index of a hop.
+pub(crate) struct Given {
+    pub(crate) is_second: bool,
+    pub(crate) first: u32,
+    pub(crate) second: u32,
+    pub(crate) ignore_macs: bool,
 }
 
-fn run_ingress(
-    label: &[u8],
-    path: &mut [u8],
-    ids: &[u16],
-    states: &[u8],
-    interface: u16,
-    time: u32,
-    ignore_macs: bool,
-) {
-    put_label(b"ingress", label);
-    let answer = step::standard_path_ingress(
-        Edition::First,
+fn interface(number: u32) -> u16 {
+    (number % 65536) as u16
+}
+
+fn hop(number: u32) -> u8 {
+    (number % 256) as u8
+}
+
+fn step(given: Given, ids: &[u16], states: &[u8], key: &[u8; 16], path: &mut [u8]) {
+    let reply = editions::scion_handle_standard_path_in_edition(
+        given.is_second,
         ids,
         states,
         path,
-        interface,
-        time,
-        &KEY,
-        ignore_macs,
+        interface(given.first),
+        given.second,
+        key,
+        given.ignore_macs,
     );
-    print::put_ingress_answer(answer);
-    print::put_left(path);
+    let values = reply.values;
+    print::put_answer(
+        reply.number,
+        reply.count,
+        values,
+        reply.kind,
+        reply.code,
+        reply.pointer,
+    );
 }
 
-fn run_egress(
-    label: &[u8],
-    path: &mut [u8],
-    ids: &[u16],
-    states: &[u8],
-    interface: u16,
-    time: u32,
-    ignore_macs: bool,
-) {
-    put_label(b"egress", label);
-    let answer = step::standard_path_egress(
-        Edition::First,
+fn ingress(given: Given, ids: &[u16], states: &[u8], key: &[u8; 16], path: &mut [u8]) {
+    let reply = editions::scion_standard_path_ingress_in_edition(
+        given.is_second,
         ids,
         states,
         path,
-        interface,
-        time,
-        &KEY,
-        ignore_macs,
+        interface(given.first),
+        given.second,
+        key,
+        given.ignore_macs,
     );
-    print::put_answer(answer);
-    print::put_left(path);
+    let values = reply.values;
+    print::put_answer(
+        reply.number,
+        reply.count,
+        values,
+        reply.kind,
+        reply.code,
+        reply.pointer,
+    );
 }
 
-fn run_step(
-    label: &[u8],
-    path: &mut [u8],
-    ids: &[u16],
-    states: &[u8],
-    interface: u16,
-    time: u32,
-    ignore_macs: bool,
-) {
-    put_label(b"step", label);
-    let answer = step::handle_standard_path(
-        Edition::First,
+fn egress(given: Given, ids: &[u16], states: &[u8], key: &[u8; 16], path: &mut [u8]) {
+    let reply = editions::scion_standard_path_egress_in_edition(
+        given.is_second,
         ids,
         states,
         path,
-        interface,
-        time,
-        &KEY,
-        ignore_macs,
+        interface(given.first),
+        given.second,
+        key,
+        given.ignore_macs,
     );
-    print::put_answer(answer);
-    print::put_left(path);
+    let values = reply.values;
+    print::put_answer(
+        reply.number,
+        reply.count,
+        values,
+        reply.kind,
+        reply.code,
+        reply.pointer,
+    );
 }
 
-// ---- with the table above
-
-pub(crate) fn ingress(label: &[u8], path: &mut [u8], interface: u16, time: u32) {
-    run_ingress(label, path, &IDS, &STATES, interface, time, false);
+fn reverse(path: &mut [u8]) {
+    let reply = calls::scion_try_reverse(path);
+    let values = reply.values;
+    print::put_answer(
+        reply.number,
+        reply.count,
+        values,
+        reply.kind,
+        reply.code,
+        reply.pointer,
+    );
 }
 
-pub(crate) fn egress(label: &[u8], path: &mut [u8], interface: u16, time: u32) {
-    run_egress(label, path, &IDS, &STATES, interface, time, false);
+fn expiration(path: &[u8]) {
+    let reply = calls::scion_expiration(path);
+    let values = reply.values;
+    print::put_answer(
+        reply.number,
+        reply.count,
+        values,
+        reply.kind,
+        reply.code,
+        reply.pointer,
+    );
 }
 
-pub(crate) fn step(label: &[u8], path: &mut [u8], interface: u16, time: u32) {
-    run_step(label, path, &IDS, &STATES, interface, time, false);
+fn index(path: &[u8], number: u32) {
+    let reply = calls::scion_calculate_segment_index(path, hop(number));
+    let values = reply.values;
+    print::put_answer(
+        reply.number,
+        reply.count,
+        values,
+        reply.kind,
+        reply.code,
+        reply.pointer,
+    );
 }
 
-// ---- with another table
+fn journey(given: Given, itinerary: &[u8], path: &[u8]) {
+    let reply = editions::scion_check_journey_in_edition(
+        given.is_second,
+        path,
+        itinerary,
+        given.first,
+        given.second,
+    );
+    let values = reply.values;
+    print::put_answer(
+        reply.number,
+        reply.count,
+        values,
+        reply.kind,
+        reply.code,
+        reply.pointer,
+    );
+}
 
-pub(crate) fn ingress_at(
-    label: &[u8],
-    path: &mut [u8],
+// The calls that look at an itinerary or at the path alone.
+pub(crate) fn run_other(kind: u8, given: Given, itinerary: &[u8], path: &mut [u8]) {
+    match kind {
+        b'v' => reverse(path),
+        b'p' => expiration(path),
+        b'd' => index(path, given.first),
+        _ => journey(given, itinerary, path),
+    }
+}
+
+// The step and its halves.
+pub(crate) fn run_step(
+    kind: u8,
+    given: Given,
     ids: &[u16],
     states: &[u8],
-    interface: u16,
+    key: &[u8; 16],
+    path: &mut [u8],
 ) {
-    run_ingress(label, path, ids, states, interface, 1337, false);
-}
-
-pub(crate) fn egress_at(label: &[u8], path: &mut [u8], ids: &[u16], states: &[u8], interface: u16) {
-    run_egress(label, path, ids, states, interface, 1337, false);
-}
-
-pub(crate) fn step_at(label: &[u8], path: &mut [u8], ids: &[u16], states: &[u8], interface: u16) {
-    run_step(label, path, ids, states, interface, 1337, false);
-}
-
-// ---- with MACs ignored
-
-pub(crate) fn ingress_unchecked(label: &[u8], path: &mut [u8], interface: u16, time: u32) {
-    run_ingress(label, path, &IDS, &STATES, interface, time, true);
-}
-
-pub(crate) fn egress_unchecked(label: &[u8], path: &mut [u8], interface: u16, time: u32) {
-    run_egress(label, path, &IDS, &STATES, interface, time, true);
-}
-
-pub(crate) fn step_unchecked(label: &[u8], path: &mut [u8], interface: u16, time: u32) {
-    run_step(label, path, &IDS, &STATES, interface, time, true);
-}
-
-// ---- the other two calls
-
-pub(crate) fn reverse(label: &[u8], path: &mut [u8]) {
-    put_label(b"reverse", label);
-    let answer = reverse::try_reverse(path);
-    print::put_reversal(answer);
-    print::put_left(path);
-}
-
-pub(crate) fn expiration(label: &[u8], path: &[u8]) {
-    put_label(b"expiration", label);
-    print::put_expiration(segments::expiration(path));
-    print::put_left(path);
+    match kind {
+        b'e' => step(given, ids, states, key, path),
+        b'g' => ingress(given, ids, states, key, path),
+        _ => egress(given, ids, states, key, path),
+    }
 }

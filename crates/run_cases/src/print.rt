@@ -1,14 +1,5 @@
 // What a line of the output is made of.
-use answers::AsRoutingAction;
-use answers::IngressNextAction;
-use answers::LocalAsRoutingAction;
-use answers::StandardRoutingError;
-use answers::StepAnswer;
-use answers::number;
 use libc::STDOUT_FILENO;
-use reverse::Reversal;
-use scmp::ScmpError;
-use segments::PathExpiration;
 
 pub(crate) fn put(text: &[u8]) {
     io::write_all(STDOUT_FILENO, text);
@@ -19,127 +10,50 @@ fn put_number(number: u64) {
     io::print_decimal(STDOUT_FILENO, number);
 }
 
-fn put_byte(byte: u8) {
+fn put_values(values: [u64; 4], count: u16) {
+    let mut at: u16 = 0;
+    while at < 4 {
+        if at < count {
+            put_number(values[at as usize]);
+        }
+        at += 1;
+    }
+}
+
+// The number and its values; type, code, and pointer or interface of the SCMP error, if there is one.
+pub(crate) fn put_answer(
+    number: u16,
+    count: u16,
+    values: [u64; 4],
+    kind: u8,
+    code: u8,
+    pointer: u32,
+) {
+    put_number(number as u64);
+    put_values(values, count);
+    if kind != 0 {
+        put(b", SCMP");
+        put_number(kind as u64);
+        put_number(code as u64);
+        put_number(pointer as u64);
+    }
+}
+
+fn put_byte(at: usize, byte: u8) {
+    put_number(at as u64);
+    put(b"=");
     io::print_hex(STDOUT_FILENO, byte as u64, 2);
 }
 
-fn put_hex(bytes: &[u8]) {
-    let mut i = 0;
-    while i < bytes.len() {
-        put_byte(bytes[i]);
-        i += 1;
+// Writes the bytes that differ from those before, each with its place, and ends the line.
+pub(crate) fn put_left(before: &[u8], left: &[u8]) {
+    put(b", left");
+    let mut at: usize = 0;
+    while at < left.len() {
+        if left[at] != octets::byte_at(before, at) {
+            put_byte(at, left[at]);
+        }
+        at += 1;
     }
-}
-
-// Writes the bytes left, and ends the line.
-pub(crate) fn put_left(path: &[u8]) {
-    put(b", left ");
-    put_hex(path);
     put(b"\n");
-}
-
-fn put_values(values: [u64; 4], count: u8) {
-    if 0 < count {
-        put_number(values[0]);
-    }
-    if 1 < count {
-        put_number(values[1]);
-    }
-    if 2 < count {
-        put_number(values[2]);
-    }
-    if 3 < count {
-        put_number(values[3]);
-    }
-}
-
-fn put_scmp(error: ScmpError) {
-    match error {
-        ScmpError::NoMessage => {}
-        ScmpError::ParameterProblem { code, pointer } => {
-            put(b", SCMP 4");
-            put_number(code as u64);
-            put_number(pointer as u64);
-        }
-        ScmpError::ExternalInterfaceDown { interface_id } => {
-            put(b", SCMP 5 0");
-            put_number(interface_id as u64);
-        }
-    }
-}
-
-fn put_refusal(why: StandardRoutingError) {
-    put(b"refused");
-    put_number(number::refusal_number(why) as u64);
-    put_values(
-        number::refusal_values(why),
-        number::refusal_value_count(why),
-    );
-    put_scmp(scmp::to_scmp_error(why));
-}
-
-fn put_local(action: LocalAsRoutingAction) {
-    match action {
-        LocalAsRoutingAction::ForwardLocal => put(b"ForwardLocal"),
-        LocalAsRoutingAction::IngressSCMPHandleRequest { interface_id } => {
-            put(b"IngressSCMPHandleRequest");
-            put_number(interface_id as u64);
-        }
-        LocalAsRoutingAction::EgressSCMPHandleRequest { interface_id } => {
-            put(b"EgressSCMPHandleRequest");
-            put_number(interface_id as u64);
-        }
-    }
-}
-
-fn put_action(action: AsRoutingAction) {
-    match action {
-        AsRoutingAction::Local(local) => put_local(local),
-        AsRoutingAction::ForwardNextHop {
-            egress_interface_id,
-        } => {
-            put(b"ForwardNextHop");
-            put_number(egress_interface_id as u64);
-        }
-    }
-}
-
-pub(crate) fn put_ingress_answer(answer: IngressNextAction) {
-    match answer {
-        IngressNextAction::Complete(action) => put_action(action),
-        IngressNextAction::Refused(why) => put_refusal(why),
-        IngressNextAction::ContinueEgress {
-            egress_interface_id,
-        } => {
-            put(b"ContinueEgress");
-            put_number(egress_interface_id as u64);
-        }
-    }
-}
-
-pub(crate) fn put_answer(answer: StepAnswer) {
-    match answer {
-        StepAnswer::Action(action) => put_action(action),
-        StepAnswer::Refused(why) => put_refusal(why),
-    }
-}
-
-pub(crate) fn put_reversal(answer: Reversal) {
-    match answer {
-        Reversal::Reversed => put(b"Reversed"),
-        Reversal::Failed(error) => {
-            put(b"refused");
-            put_number(reverse::reverse_number(error) as u64);
-        }
-    }
-}
-
-pub(crate) fn put_expiration(answer: PathExpiration) {
-    let PathExpiration::At(time) = answer else {
-        put(b"refused");
-        put_number(segments::expiration_number(answer) as u64);
-        return;
-    };
-    put(b"At");
-    put_number(time as u64);
 }

@@ -58,7 +58,7 @@ pub fn value_count(number: u16) -> usize {
     }
 }
 
-/// As the lines of run_cases have it.
+/// In the words of models/step.py in crates/run_cases.
 impl fmt::Display for Answer {
     fn fmt(&self, f: &mut fmt::Formatter<'_>) -> fmt::Result {
         match self.number {

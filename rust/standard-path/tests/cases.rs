@@ -1,53 +1,34 @@
-//! The cases of `crates/run_cases` once more, from Rust: `inputs` has what each call is given, `stdout` of that crate
-//! its line. Both are printed by `crates/run_cases/expected.py`, a model in Python.
+//! The calls of `crates/run_cases` once more, from Rust, in both editions.
 
+#[path = "../../../crates/run_cases/cases.rs"]
+#[rustfmt::skip]
+mod cases;
+
+use cases::Case;
 use standard_path::{
-    expiration, handle_standard_path, standard_path_egress, standard_path_ingress, try_reverse, AdvanceError,
-    AsRoutingAction, IngressNextAction, Interfaces, LocalAsRoutingAction, Refusal, ScionNetworkTime, ScmpError,
-    StandardRoutingError,
+    expiration, try_reverse, AdvanceError, AsRoutingAction, Edition, IngressNextAction, Interfaces,
+    LocalAsRoutingAction, Refusal, ScionNetworkTime, ScmpError, StandardRoutingError,
 };
 
-const INPUTS: &str = include_str!("inputs");
-const LINES: &str = include_str!("../../../crates/run_cases/stdout");
-
-// RFC 4493's key.
-const KEY: [u8; 16] = [
-    0x2b, 0x7e, 0x15, 0x16, 0x28, 0xae, 0xd2, 0xa6, 0xab, 0xf7, 0x15, 0x88, 0x09, 0xcf, 0x4f, 0x3c,
-];
-
-fn from_hex(text: &str) -> Vec<u8> {
-    (0..text.len())
-        .step_by(2)
-        .map(|at| u8::from_str_radix(&text[at..at + 2], 16).unwrap())
-        .collect()
-}
-
-fn to_hex(bytes: &[u8]) -> String {
-    bytes.iter().map(|byte| format!("{byte:02x}")).collect()
-}
-
-fn numbers<T: std::str::FromStr>(text: &str) -> Vec<T> {
-    text.split(',')
-        .map(|number| number.parse().ok().expect("a number"))
-        .collect()
-}
-
 fn action_text(action: AsRoutingAction) -> String {
+    let number = action.number();
     match action {
-        AsRoutingAction::ForwardNextHop { egress_interface_id } => format!("ForwardNextHop {egress_interface_id}"),
-        AsRoutingAction::Local(LocalAsRoutingAction::ForwardLocal) => "ForwardLocal".into(),
-        AsRoutingAction::Local(LocalAsRoutingAction::IngressSCMPHandleRequest { interface_id }) => {
-            format!("IngressSCMPHandleRequest {interface_id}")
+        AsRoutingAction::Local(LocalAsRoutingAction::ForwardLocal) => number.to_string(),
+        AsRoutingAction::ForwardNextHop {
+            egress_interface_id: id,
         }
-        AsRoutingAction::Local(LocalAsRoutingAction::EgressSCMPHandleRequest { interface_id }) => {
-            format!("EgressSCMPHandleRequest {interface_id}")
-        }
+        | AsRoutingAction::Local(
+            LocalAsRoutingAction::IngressSCMPHandleRequest { interface_id: id }
+            | LocalAsRoutingAction::EgressSCMPHandleRequest { interface_id: id },
+        ) => format!("{number} {id}"),
     }
 }
 
 fn ingress_text(action: IngressNextAction) -> String {
     match action {
-        IngressNextAction::ContinueEgress { egress_interface_id } => format!("ContinueEgress {egress_interface_id}"),
+        IngressNextAction::ContinueEgress { egress_interface_id } => {
+            format!("{} {egress_interface_id}", action.number())
+        }
         IngressNextAction::Complete(action) => action_text(action),
     }
 }
@@ -61,7 +42,9 @@ fn values(error: StandardRoutingError) -> Vec<u64> {
     use StandardRoutingError::*;
     match error {
         UnsoundTable | MetaTooShort | DataTooShort | TooManyHops => vec![],
-        AdvanceFailed(AdvanceError::SingleHopSegment | AdvanceError::SegmentEnd) => vec![],
+        AdvanceFailed(AdvanceError::SingleHopSegment | AdvanceError::SegmentEnd | AdvanceError::MisplacedPeering) => {
+            vec![]
+        }
         AdvanceFailed(AdvanceError::HopOutOfBounds(index) | AdvanceError::InfoOutOfBounds(index)) => {
             vec![index.into()]
         }
@@ -109,7 +92,7 @@ fn values(error: StandardRoutingError) -> Vec<u64> {
 }
 
 fn refusal_text(refusal: Refusal) -> String {
-    let mut text = format!("refused {}", refusal.number());
+    let mut text = refusal.number().to_string();
     for value in values(refusal.error) {
         text += &format!(" {value}");
     }
@@ -123,50 +106,78 @@ fn refusal_text(refusal: Refusal) -> String {
     text
 }
 
-fn step_text(call: &str, path: &mut [u8], given: &[&str]) -> String {
-    let [ids, states, interface, time, ignore_macs] = given else {
-        panic!("a step is given five things");
-    };
-    let (ids, states) = (numbers(ids), numbers(states));
+fn edition(case: &Case) -> Edition {
+    match case.edition {
+        1 => Edition::First,
+        2 => Edition::Second,
+        other => panic!("no edition has the number {other}"),
+    }
+}
+
+fn step_text(case: &Case, path: &mut [u8]) -> String {
+    let (ids, edition, key) = (case.ids(), edition(case), &case.key());
     let interfaces = Interfaces {
         ids: &ids,
-        states: &states,
+        states: &case.states,
     };
-    let interface = interface.parse().unwrap();
-    let time = ScionNetworkTime::from_timestamp_secs(time.parse().unwrap());
-    let ignore_macs = *ignore_macs == "1";
-    match call {
-        "ingress" => standard_path_ingress(path, interface, time, &KEY, interfaces, ignore_macs).map(ingress_text),
-        "egress" => standard_path_egress(path, interface, time, &KEY, interfaces, ignore_macs).map(action_text),
-        "step" => handle_standard_path(path, interface, time, &KEY, interfaces, ignore_macs).map(action_text),
-        _ => panic!("no call is named {call}"),
+    let interface = case.first.try_into().unwrap();
+    let time = ScionNetworkTime::from_timestamp_secs(case.second);
+    let ignore_macs = case.ignore_macs;
+    match case.call {
+        "ingress" => edition
+            .standard_path_ingress(path, interface, time, key, interfaces, ignore_macs)
+            .map(ingress_text),
+        "egress" => edition
+            .standard_path_egress(path, interface, time, key, interfaces, ignore_macs)
+            .map(action_text),
+        "step" => edition
+            .handle_standard_path(path, interface, time, key, interfaces, ignore_macs)
+            .map(action_text),
+        call => panic!("no call is named {call}"),
     }
     .unwrap_or_else(refusal_text)
 }
 
-fn answer(call: &str, path: &mut [u8], given: &[&str]) -> String {
-    match call {
+fn journey_number(case: &Case) -> u16 {
+    let [earliest, latest] = [case.first, case.second].map(ScionNetworkTime::from_timestamp_secs);
+    match edition(case).check_journey(&case.path, &case.itinerary, earliest, latest) {
+        Ok(verdict) => verdict.number(),
+        Err(error) => error.number(),
+    }
+}
+
+fn answer(case: &Case, path: &mut [u8]) -> String {
+    match case.call {
         "reverse" => match try_reverse(path) {
-            Ok(()) => "Reversed".into(),
-            Err(error) => format!("refused {}", error.number()),
+            Ok(()) => "110".into(),
+            Err(error) => error.number().to_string(),
         },
         "expiration" => match expiration(path) {
-            Ok(time) => format!("At {time}"),
-            Err(error) => format!("refused {}", error.number()),
+            Ok(time) => format!("111 {time}"),
+            Err(error) => error.number().to_string(),
         },
-        _ => step_text(call, path, given),
+        "journey" => journey_number(case).to_string(),
+        _ => step_text(case, path),
     }
 }
 
 #[test]
-fn each_case_answers_as_the_model() {
-    assert_eq!(INPUTS.lines().count(), LINES.lines().count());
-    for (input, line) in INPUTS.lines().zip(LINES.lines()) {
-        let fields: Vec<&str> = input.split(' ').collect();
-        let (call, mut path) = (fields[0], from_hex(fields[1]));
-        let answer = answer(call, &mut path, &fields[2..]);
-        let (case, _) = line.split_once(": ").unwrap();
-        assert!(case.starts_with(call), "{case}");
-        assert_eq!(format!("{case}: {answer}, left {}", to_hex(&path)), line);
-    }
+fn each_case_answers_as_expected() {
+    let mut tried = 0;
+    cases::each(|case, expected, left| {
+        if case.call == "index" {
+            return;
+        }
+        let mut path = case.path.clone();
+        let answer = answer(case, &mut path);
+        assert_eq!(
+            (&answer[..], &path[..]),
+            (expected, left),
+            "{}, {}",
+            case.call,
+            case.label
+        );
+        tried += 1;
+    });
+    assert!(tried > 2000, "{tried}");
 }
