@@ -8,7 +8,10 @@ use lib.ListN.{length, set, take}
 use Rattle.interface_table.specs.Table.{idsAscending, statesSound, tableSound}
 use Rattle.records.specs.Layout.{narrow}
 use Rattle.records.specs.Records.{every, recordCount, bytesOf, nextOf, arrivalOf, firstInterfaceOf, interfaceNumberOf, interfaceStateOf, chainWithin}
-use Rattle.itinerary.specs.Itinerary.{sizeSound, nextSound, areZero, zerosSound, isNoStation, interfaceSound, stationSound, headSound, soundOf, itinerarySound, stationWith, stationsOf, tablesSound, arrivalsFit, planFits, itineraryFits}
+use Rattle.record_rules.specs.Rules.{sizeSound, nextSound, areZero, zerosSound, headSound}
+use Rattle.soundness.specs.Soundness.{isNoStation, interfaceSound, stationSound, soundOf, itinerarySound}
+use Rattle.station.specs.Station.{stationWith}
+use Rattle.itinerary.specs.Itinerary.{stationsOf, tablesSound, arrivalsFit, planFits, itineraryFits}
 
 -- these bytes, and zeros up to n
 abbrev padded : ℕ → List ℕ → List ℕ

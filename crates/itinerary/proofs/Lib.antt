@@ -1,4 +1,3 @@
 pub mod Stations
 pub mod Bound
-pub mod Merge
 pub mod Cases

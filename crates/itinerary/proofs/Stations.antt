@@ -11,8 +11,10 @@ use lib.ListN.{length, getD, length-map}
 use Rattle.interface_table.specs.Table.{tableSound}
 use Rattle.records.specs.Layout.{Layout}
 use Rattle.records.specs.Records.{every, nextOf, arrivalOf, firstStation, chainWithin}
-use Rattle.itinerary.specs.Itinerary.{Station, stationWith, stationsOf, tablesSound, arrivalsFit}
-use Rattle.itinerary.specs.Inner.{stationsWithin, tableRecordsWithin}
+use Rattle.station.specs.Station.{Station, stationWith}
+use Rattle.itinerary.specs.Itinerary.{stationsOf, tablesSound, arrivalsFit}
+use Rattle.itinerary.specs.Inner.{stationsWithin}
+use Rattle.records.specs.Inner.{tableRecordsWithin}
 use Rattle.records.proofs.Every.{every-map}
 use Rattle.records.proofs.Walks.{chain-end, chain-on}
 

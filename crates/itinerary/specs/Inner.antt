@@ -7,27 +7,18 @@ use mathlib.Core.List.{List}
 use lib.Dec.{eqb}
 use lib.ListN.{length}
 use Rattle.records.specs.Layout.{Layout}
-use Rattle.records.specs.Records.{firstInterfaceOf, firstStation, chainWithin}
-use Rattle.itinerary.specs.Itinerary.{Station, soundOf, stationWith, stationsOf, tablesSound, arrivalsFit}
+use Rattle.records.specs.Inner.{stationRecordsWithin, tableRecordsWithin}
+use Rattle.soundness.specs.Inner.{soundWithin}
+use Rattle.station.specs.Station.{Station}
+use Rattle.itinerary.specs.Itinerary.{stationsOf, tablesSound, arrivalsFit}
 
 module _ (layout : Layout) (itinerary : List ℕ) where
-  abbrev pub stationRecordsWithin : ℕ → List ℕ
-  stationRecordsWithin stationLimit = chainWithin layout itinerary stationLimit (firstStation layout itinerary)
-
-  abbrev pub tableRecordsWithin : ℕ → ℕ → List ℕ
-  tableRecordsWithin tableLimit station = chainWithin layout itinerary tableLimit (firstInterfaceOf layout itinerary station)
-
-  abbrev pub soundWithin : ℕ → ℕ → Bool
-  soundWithin stationLimit tableLimit = soundOf layout itinerary (stationRecordsWithin stationLimit) (tableRecordsWithin tableLimit)
-
-  abbrev pub stationWithin : ℕ → ℕ → Station
-  stationWithin tableLimit index = stationWith layout itinerary (tableRecordsWithin tableLimit) index
-
   abbrev pub stationsWithin : ℕ → ℕ → List Station
-  stationsWithin stationLimit tableLimit = stationsOf layout itinerary (stationRecordsWithin stationLimit) (tableRecordsWithin tableLimit)
+  stationsWithin stationLimit tableLimit =
+      stationsOf layout itinerary (stationRecordsWithin layout itinerary stationLimit) (tableRecordsWithin layout itinerary tableLimit)
 
   unfoldable pub fitsWithin : ℕ → ℕ → ℕ → Bool
   fitsWithin stationLimit tableLimit wanted =
-      (soundWithin stationLimit tableLimit && tablesSound (stationsWithin stationLimit tableLimit)
+      (soundWithin layout itinerary stationLimit tableLimit && tablesSound (stationsWithin stationLimit tableLimit)
       && arrivalsFit (stationsWithin stationLimit tableLimit))
       && eqb (length (stationsWithin stationLimit tableLimit)) wanted

@@ -10,7 +10,7 @@ use lib.ListN.{length}
 use Rattle.octets.proofs.Bools.{both, each-of}
 use Rattle.standard_path.specs.Header.{hops}
 use Rattle.edition.specs.declared.Edition.{Edition}
-use Rattle.itinerary.specs.Itinerary.{Station}
+use Rattle.station.specs.Station.{Station}
 use Rattle.journey.specs.Check.{startOf, countOf}
 use Rattle.journey.specs.Journey.{StationStep, goesOn, someLeft, orEnds, journey, delivers, endedWell}
 use Rattle.journey.proofs.Stands.{Stands, arrivingSegId}

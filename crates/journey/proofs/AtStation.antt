@@ -31,7 +31,7 @@ use Rattle.answers.specs.Outcome.{Outcome}
 use Rattle.routing.proofs.Inside.{insideQuestions}
 use Rattle.routing_laws.proofs.Whole.{step-asks}
 use Rattle.moves.specs.Moves.{egressMove}
-use Rattle.itinerary.specs.Itinerary.{Station}
+use Rattle.station.specs.Station.{Station}
 use Rattle.journey.specs.Check.{startOf, countOf, hopOf, leavesBy}
 use Rattle.journey.specs.Journey.{stepAt, goesOn, delivers}
 use Rattle.journey.proofs.Yes.{yes-valid, through, passed-through}

@@ -14,7 +14,8 @@ use Rattle.standard_path.specs.Header.{infos, hops}
 use Rattle.edition.specs.declared.Edition.{Edition}
 use Rattle.edition.specs.Edition.{peeringPath}
 use Rattle.records.specs.Layout.{Layout}
-use Rattle.itinerary.specs.Itinerary.{Station, stations}
+use Rattle.station.specs.Station.{Station}
+use Rattle.itinerary.specs.Itinerary.{stations}
 use Rattle.journey.specs.declared.answer.Verdict.the-variants.{Passed, Refused}
 use Rattle.journey.specs.Journey.{StationStep, stepAt, journey, arrives}
 use Rattle.journey.specs.Verdict.{questions, journeyCheck}

@@ -16,7 +16,8 @@ use Rattle.interface_table.specs.Table.{tableSound}
 use Rattle.moves.proofs.Touched.{same-info}
 use Rattle.edition.specs.declared.Edition.{Edition}
 use Rattle.records.specs.Layout.{Layout}
-use Rattle.itinerary.specs.Itinerary.{Station, stations}
+use Rattle.station.specs.Station.{Station}
+use Rattle.itinerary.specs.Itinerary.{stations}
 use Rattle.journey.specs.declared.answer.Verdict.the-variants.{Passed, NotPassed, Refused}
 use Rattle.journey.specs.Check.{noStation, chainedSegId, macsFrom, passes}
 use Rattle.journey.specs.Journey.{StationStep, journey, endedWell, arrives, Readings, Travels, Demand3}

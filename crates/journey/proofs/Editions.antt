@@ -15,7 +15,7 @@ use Rattle.validator.specs.Check.{keyMac}
 use Rattle.routing.proofs.Moved.{step-holds}
 use Rattle.routing_laws.proofs.Editions.{step-agrees}
 use Rattle.records.specs.Layout.{Layout}
-use Rattle.itinerary.specs.Itinerary.{Station}
+use Rattle.station.specs.Station.{Station}
 use Rattle.journey.specs.Check.{noStation, startOf, countOf, hopOf, segmentFits, segmentPasses, jointPasses, passes}
 use Rattle.journey.specs.Verdict.{journeyCheck}
 use Rattle.journey.proofs.All.{all-same}

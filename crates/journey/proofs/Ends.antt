@@ -11,7 +11,7 @@ use lib.ListN.{length}
 use Rattle.standard_path.specs.Header.{infos, hops}
 use Rattle.edition.specs.declared.Edition.{Edition}
 use Rattle.edition.specs.Edition.{peeringPath}
-use Rattle.itinerary.specs.Itinerary.{Station}
+use Rattle.station.specs.Station.{Station}
 use Rattle.journey.specs.Check.{startOf}
 use Rattle.journey.specs.Journey.{StationStep, Ended, nowhere, endedAt, goesOn, journey, endedWell}
 use Rattle.journey.proofs.Stands.{Stands, arrivingSegId}

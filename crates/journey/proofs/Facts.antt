@@ -11,7 +11,7 @@ use Rattle.octets.proofs.Bools.{both, each-of}
 use Rattle.standard_path.specs.Header.{infos, hops}
 use Rattle.edition.specs.declared.Edition.{Edition}
 use Rattle.edition.specs.Edition.{peeringPath}
-use Rattle.itinerary.specs.Itinerary.{Station}
+use Rattle.station.specs.Station.{Station}
 use Rattle.journey.specs.Check.{startOf, countOf, shared, noStation}
 use Rattle.journey.proofs.Hops.{Hop, Onward, inner, over, over-before, Kind, middle, last, joint, kind, isLast, in-header, start-next, next-in-header}
 use Rattle.journey.proofs.Lengths.{Shape, one, two, three, linked, linked-infos, at-most-three, all-double, station-among, last-segment, spare, Enough}

@@ -16,7 +16,7 @@ use Rattle.interface_table.specs.Table.{tableSound}
 use Rattle.answers.specs.declared.StepAnswer.{StepAnswer}
 use Rattle.answers.specs.Outcome.{Outcome}
 use Rattle.edition.specs.declared.Edition.{Edition}
-use Rattle.itinerary.specs.Itinerary.{Station}
+use Rattle.station.specs.Station.{Station}
 use Rattle.journey.specs.Check.{startOf, countOf, hopOf, leavesBy}
 use Rattle.journey.specs.Journey.{StationStep, goesOn, delivers}
 use Rattle.journey.proofs.Stands.{Stands, arrivingSegId}

@@ -15,7 +15,7 @@ use Rattle.answers.specs.Questions.{firstNo}
 use Rattle.answers.specs.declared.Validation.the-variants.{Valid}
 use Rattle.edition.specs.declared.Edition.{Edition}
 use Rattle.edition.specs.Edition.{peeringPath, peeringQuestions}
-use Rattle.itinerary.specs.Itinerary.{Station}
+use Rattle.station.specs.Station.{Station}
 use Rattle.journey.specs.Check.{longEnough, lengthsFit, lengthsPass, startOf, countOf, shared}
 use Rattle.edition.proofs.Peering.{peering-lengths}
 use Rattle.journey.proofs.Hops.{Hop, before-end}

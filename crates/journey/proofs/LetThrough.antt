@@ -17,7 +17,9 @@ use Rattle.interface_table.specs.Table.{tableSound}
 use Rattle.edition.specs.declared.Edition.{Edition}
 use Rattle.edition.specs.Edition.{peeringPath}
 use Rattle.records.specs.Layout.{Layout}
-use Rattle.itinerary.specs.Itinerary.{Station, stations, itinerarySound, arrivalsFit, tablesSound, planFits, itineraryFits}
+use Rattle.station.specs.Station.{Station}
+use Rattle.itinerary.specs.Itinerary.{stations, arrivalsFit, tablesSound, planFits, itineraryFits}
+use Rattle.soundness.specs.Soundness.{itinerarySound}
 use Rattle.records.proofs.Every.{every-at}
 use Rattle.journey.specs.Check.{noStation}
 use Rattle.journey.specs.Verdict.{stationCount, quiet, questions}

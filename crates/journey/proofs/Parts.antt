@@ -17,7 +17,7 @@ use Rattle.interface_table.specs.Table.{stateOf, pairAllowed}
 use Rattle.validator.specs.Check.{isListed, linkOf}
 use Rattle.edition.specs.declared.Edition.{Edition}
 use Rattle.edition.specs.Edition.{peeringPath, peeringFits}
-use Rattle.itinerary.specs.Itinerary.{Station}
+use Rattle.station.specs.Station.{Station}
 use Rattle.journey.specs.Check.{all, lengthsPass, macFits, arrivesBy, leavesBy, hopFits, segmentFits, linkFits, jointFits, peeringHopOf, shared, startOf, countOf, hopOf, noStation, stationOf, segmentPasses, jointPasses, passes}
 use Rattle.journey.proofs.All.{all-at, all-of}
 use Rattle.journey.proofs.Hops.{Onward, inner, over, start-next}

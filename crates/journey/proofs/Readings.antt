@@ -25,7 +25,7 @@ use Rattle.egress.specs.Egress.{leavingAction, egressAction}
 use Rattle.validator.specs.Check.{keyMac}
 use Rattle.routing.proofs.Inside.{insideQuestions}
 use Rattle.routing_laws.proofs.Whole.{step-asks, checks, leavingChecks}
-use Rattle.itinerary.specs.Itinerary.{Station}
+use Rattle.station.specs.Station.{Station}
 use Rattle.journey.specs.Journey.{StationStep, stepAt, endedAt, goesOn, someLeft, orEnds, journey}
 
 -- an answer that egress gave, with its move done

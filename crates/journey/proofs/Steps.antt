@@ -35,7 +35,7 @@ use Rattle.routing.specs.Step.{leavingQuestions}
 use Rattle.moves.proofs.Touched.{ingress-fields-moved}
 use Rattle.routing.proofs.Inside.{insideQuestions}
 use Rattle.routing_laws.proofs.Whole.{step-asks}
-use Rattle.itinerary.specs.Itinerary.{Station}
+use Rattle.station.specs.Station.{Station}
 use Rattle.journey.specs.Check.{startOf, countOf, hopOf, chainedSegId, macsFrom}
 use Rattle.journey.specs.Journey.{stepAt}
 use Rattle.journey.proofs.Quiet.{Quiet, quiet-ingress, quiet-egress}

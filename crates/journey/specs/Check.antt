@@ -14,7 +14,7 @@ use Rattle.interface_table.specs.Table.{stateOf, pairAllowed}
 use Rattle.validator.specs.Check.{macNumber, rightMac, isListed, linkOf, keyMac, isUpListed}
 use Rattle.edition.specs.declared.Edition.{Edition}
 use Rattle.edition.specs.Edition.{peeringPath, peeringHop, peeringFits}
-use Rattle.itinerary.specs.Itinerary.{Station}
+use Rattle.station.specs.Station.{Station}
 
 -- whether it holds of each number below n
 unfoldable pub all : ℕ → (ℕ → Bool) → Bool

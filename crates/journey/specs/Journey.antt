@@ -18,7 +18,8 @@ use Rattle.validator.specs.Check.{keyMac}
 use Rattle.routing.specs.Step.{step}
 use Rattle.edition.specs.declared.Edition.{Edition}
 use Rattle.records.specs.Layout.{Layout}
-use Rattle.itinerary.specs.Itinerary.{Station, stations}
+use Rattle.station.specs.Station.{Station}
+use Rattle.itinerary.specs.Itinerary.{stations}
 use Rattle.journey.specs.declared.answer.Verdict.{Verdict}
 use Rattle.journey.specs.declared.answer.Verdict.the-variants.{Passed}
 use Rattle.journey.specs.Verdict.{questions}

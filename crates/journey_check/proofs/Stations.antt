@@ -14,8 +14,9 @@ use Rattle.standard_path.specs.Header.{infos, hops, infoField}
 use Rattle.edition.specs.declared.Edition.{Edition}
 use Rattle.edition.specs.Edition.{peeringPath}
 use Rattle.records.specs.Layout.{Layout}
-use Rattle.records.specs.Records.{recordCount, nextOf, firstStation, chainWithin, recordAfter}
-use Rattle.itinerary.specs.Itinerary.{stationRecords, tableRecords, stationAt, stations, planFits, itineraryFits}
+use Rattle.records.specs.Records.{recordCount, nextOf, firstStation, chainWithin, recordAfter, stationRecords, tableRecords}
+use Rattle.station.specs.Station.{stationAt}
+use Rattle.itinerary.specs.Itinerary.{stations, planFits, itineraryFits}
 use Rattle.itinerary.proofs.Stations.{count-by-records, next-record, record-there, station-from-record}
 use Rattle.journey.specs.Check.{all, segmentFits, linkFits, jointFits, shared, startOf, countOf, hopOf, noStation, stationOf, segmentPasses, jointPasses}
 use Rattle.journey.proofs.Lengths.{Shape, at-most-three, all-long, station-among, start-enough, fit-shape}

@@ -2,16 +2,17 @@
 use crate::segments;
 use edition::Edition;
 use interface_table::Listed;
-use itinerary::station::lookup;
-use itinerary::station::station_record;
 use records::form::Form;
 use segment_check::hops;
 use standard_path::view;
+use station::lookup;
+use station::station_record;
 ghost use mathlib.Core.Path.{_≡_};
 ghost use Prim.Native.Nat.{_+_, _-_, _<_};
 ghost use Rattle.standard_path.specs.Header.{infos};
 ghost use Rattle.records.specs.Layout.{layoutOf};
-ghost use Rattle.itinerary.specs.Itinerary.{stationAt, stations};
+ghost use Rattle.station.specs.Station.{stationAt};
+ghost use Rattle.itinerary.specs.Itinerary.{stations};
 ghost use Rattle.journey.specs.Check.{all, linkFits, jointFits, jointPasses};
 ghost use Rattle.journey_check.specs.Inner.{Matched};
 

@@ -1,17 +1,18 @@
 // The lengths of a path, and the stations that its segments start at.
 use edition::Edition;
-use itinerary::station::station_record;
 use records::form::Form;
 use segment_check::hops::segment_start;
 use segment_check::segments::segments_fit;
 use standard_path::view;
+use station::station_record;
 ghost use mathlib.Core.Path.{_≡_};
 ghost use Prim.Native.Nat.{_-_};
 ghost use lib.ListN.{getD};
 ghost use Rattle.standard_path.specs.Meta.{seg0Len, seg1Len, seg2Len};
 ghost use Rattle.standard_path.specs.Header.{infos};
 ghost use Rattle.records.specs.Layout.{layoutOf};
-ghost use Rattle.itinerary.specs.Itinerary.{stationRecords, stations};
+ghost use Rattle.records.specs.Records.{stationRecords};
+ghost use Rattle.itinerary.specs.Itinerary.{stations};
 ghost use Rattle.journey.specs.Check.{all, longEnough, lengthsFit, lengthsPass, startOf, shared, segmentPasses};
 ghost use Rattle.journey_check.specs.Inner.{Matched};
 

@@ -2,7 +2,6 @@
 use crate::joints;
 use crate::segments;
 use edition::Edition;
-use itinerary::station;
 use journey::answer::JourneyError;
 use journey::answer::Verdict;
 use records::form::Form;
@@ -67,7 +66,7 @@ fn itinerary_fits(
     ensures { λ r. ⌜ r ≡
         (itineraryFits (layoutOf form) (now (itinerary .entry)) (stationCount edition (now (path .entry))) && leb earliest latest) ⌝ }
 {
-    station::fits(form, itinerary, station_count(edition, path)) & (earliest <= latest)
+    itinerary::fits(form, itinerary, station_count(edition, path)) & (earliest <= latest)
 }
 
 fn is_at_start(path: &[u8]) -> bool

@@ -50,9 +50,16 @@ module _ (layout : Layout) (itinerary : List ℕ) where
   chainWithin zero index = []
   chainWithin (suc limit) index = cond (eqb index 0) [] (index ∷ chainWithin limit (nextOf index))
 
-  -- the whole of it: a sound chain goes up, and so has fewer records than there are (`fewer` of the itinerary's proofs)
+  -- the whole of it: a sound chain goes up, and so has fewer records than there are (`fewer` of soundness's proofs)
   abbrev pub chain : ℕ → List ℕ
   chain index = chainWithin recordCount index
+
+  -- the records reached: the stations', and those of a station's table
+  abbrev pub stationRecords : List ℕ
+  stationRecords = chain firstStation
+
+  abbrev pub tableRecords : ℕ → List ℕ
+  tableRecords station = chain (firstInterfaceOf station)
 
   -- the record so many places behind one in its chain; behind the last one there is none
   unfoldable pub recordAfter : ℕ → ℕ → ℕ

@@ -13,7 +13,7 @@ use Rattle.standard_path.specs.Header.{infoField}
 use Rattle.edition.specs.declared.Edition.{Edition}
 use Rattle.records.specs.Layout.{Layout}
 use Rattle.records.specs.Records.{keyOf, recordAfter}
-use Rattle.itinerary.specs.Itinerary.{Station, stationWith, stationAt}
+use Rattle.station.specs.Station.{Station, stationWith, stationAt}
 use Rattle.journey.specs.Check.{all, macsFrom, chainedSegId, countOf, hopOf, peeringHopOf, hopFits, segmentFits}
 use Rattle.journey.proofs.Stands.{chain-one-more}
 use Rattle.segment_check.proofs.All.{Asked, asked-none}

@@ -7,7 +7,7 @@ use Rattle.standard_path.specs.Header.{infoField}
 use Rattle.edition.specs.declared.Edition.{Edition}
 use Rattle.records.specs.Layout.{Layout}
 use Rattle.records.specs.Records.{recordAfter}
-use Rattle.itinerary.specs.Itinerary.{stationAt}
+use Rattle.station.specs.Station.{stationAt}
 use Rattle.journey.specs.Check.{countOf, hopOf, peeringHopOf, segmentFits}
 
 abbrev pub segmentFitsFrom : Edition → Layout → List ℕ → ℕ → ℕ → ℕ → List ℕ → ℕ → Bool

@@ -1,9 +1,9 @@
 // A hop of a segment: where it stands in the path, and what is asked of it at its station.
 use edition::Edition;
 use interface_table::Listed;
-use itinerary::station::lookup;
 use records::form::Form;
 use standard_path::view;
+use station::lookup;
 use validator::expected_mac;
 use validator::mac_number;
 ghost use mathlib.Core.Path.{_≡_};
@@ -14,7 +14,7 @@ ghost use Rattle.fields.specs.Fields.{macField};
 ghost use Rattle.standard_path.specs.Header.{infoField};
 ghost use Rattle.validator.specs.Check.{macNumber, rightMac, keyMac};
 ghost use Rattle.records.specs.Layout.{layoutOf};
-ghost use Rattle.itinerary.specs.Itinerary.{stationAt};
+ghost use Rattle.station.specs.Station.{stationAt};
 ghost use Rattle.journey.specs.Check.{startOf, countOf, hopOf, peeringHopOf, chainedSegId, arrivesBy, leavesBy, hopFits};
 
 // ---- where it stands

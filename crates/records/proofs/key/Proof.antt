@@ -14,9 +14,6 @@ Inv-loop itinerary station at key₀ i₀ key i = Filled 0 (tabulate 16 0 (λ k.
 abbrev μ-loop : tie.MeasureT-loop
 μ-loop itinerary station at key₀ i₀ key i = 16 - i
 
-loop-holds : tie.Need-loop-holds Inv-loop μ-loop
-loop-holds c = filled-none 0 refl
-
 loop-again : tie.Need-loop-again Inv-loop μ-loop
 loop-again c =
     let args = c .before .before .before .before .before .before .args in
@@ -41,7 +38,7 @@ key-spec =
     μ-loop
     (λ c κs. search needs)
     (λ c κs. search needs)
-    loop-holds
+    (λ c. filled-none 0 refl)
     (λ c. search needs)
     (λ c κs. search needs)
     (λ c. search needs)

@@ -2,9 +2,6 @@ use borrow.Author.Needs.{needs}
 use Rattle.records.proofs.u16_field.Statement.{statement}
 use Rattle.records.proofs.u16_field.Tie as tie
 
-returns : tie.Need-returns
-returns c = rw (← c .before .before .before .offset .ensures .0) (cc)
-
 pub u16-field-spec : {M : Type 1} → statement M
 u16-field-spec =
     tie.close
@@ -14,4 +11,4 @@ u16-field-spec =
     (λ c. search needs)
     (λ c κs. search needs)
     (λ c κs. search needs)
-    returns)
+    (λ c. rw (← c .before .before .before .offset .ensures .0) (cc)))

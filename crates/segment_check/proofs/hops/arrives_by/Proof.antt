@@ -1,5 +1,5 @@
 use borrow.Author.Needs.{needs}
-use Rattle.itinerary.specs.Itinerary.{stationWith}
+use Rattle.station.specs.Station.{stationWith}
 use Rattle.journey.specs.Check.{arrivesBy}
 use Rattle.segment_check.proofs.hops.arrives_by.Statement.{statement}
 use Rattle.segment_check.proofs.hops.arrives_by.Tie as tie
