@@ -1,9 +1,8 @@
 // The calls of C. Each takes any bytes, numbers and lengths; a pointer that is not valid for its length, or an argument that is written
 // and overlaps another, is the caller's fault.
-use crate::reply;
-use crate::reply::Reply;
 use edition::Edition;
 use journey_check::verdict;
+use reply::Reply;
 use routing::step;
 use standard_path::view;
 ghost use mathlib.Core.Path.{_≡_};
@@ -19,7 +18,7 @@ ghost use Rattle.validator.specs.Check.{keyMac, atIngress, atEgress};
 ghost use Rattle.routing.specs.Step.{step};
 ghost use Rattle.records.specs.Layout.{narrow};
 ghost use Rattle.journey.specs.Verdict.{journeyCheck};
-ghost use Rattle.exports.specs.Reply.{stepReply, ingressReply, reversalReply, expirationReply, segmentReply, journeyReply};
+ghost use Rattle.reply.specs.Reply.{stepReply, ingressReply, reversalReply, expirationReply, segmentReply, journeyReply};
 
 // The version of these calls, which each change to one of them or to what it answers raises. The name has it too: a program that
 // asks for it does not link with an archive of another version.

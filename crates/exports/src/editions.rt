@@ -1,8 +1,7 @@
 // The step, its halves and the journey check in an edition of the caller's choice: false is the first, true the second.
-use crate::reply;
-use crate::reply::Reply;
 use edition::edition_of;
 use journey_check::verdict;
+use reply::Reply;
 use routing::step;
 ghost use mathlib.Core.Path.{_≡_};
 ghost use Rattle.edition.specs.Edition.{editionOf};
@@ -12,7 +11,7 @@ ghost use Rattle.validator.specs.Check.{keyMac, atIngress, atEgress};
 ghost use Rattle.routing.specs.Step.{step};
 ghost use Rattle.records.specs.Layout.{narrow};
 ghost use Rattle.journey.specs.Verdict.{journeyCheck};
-ghost use Rattle.exports.specs.Reply.{stepReply, ingressReply, journeyReply};
+ghost use Rattle.reply.specs.Reply.{stepReply, ingressReply, journeyReply};
 
 #[no_mangle]
 pub extern "C" fn scion_handle_standard_path_in_edition(

@@ -1,6 +1,6 @@
 use borrow.Author.Needs.{needs}
 use mathlib.Core.Path.{ap, _∙_}
-use Rattle.exports.specs.Reply.{segmentReply}
+use Rattle.reply.specs.Reply.{segmentReply}
 use Rattle.exports.proofs.calls.scion_calculate_segment_index.Statement.{statement}
 use Rattle.exports.proofs.calls.scion_calculate_segment_index.Tie as tie
 

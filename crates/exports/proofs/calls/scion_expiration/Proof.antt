@@ -1,6 +1,6 @@
 use borrow.Author.Needs.{needs}
 use mathlib.Core.Path.{ap, _∙_}
-use Rattle.exports.specs.Reply.{expirationReply}
+use Rattle.reply.specs.Reply.{expirationReply}
 use Rattle.exports.proofs.calls.scion_expiration.Statement.{statement}
 use Rattle.exports.proofs.calls.scion_expiration.Tie as tie
 

@@ -1,6 +1,6 @@
 use borrow.Author.Needs.{needs}
 use mathlib.Core.Path.{ap, _∙_}
-use Rattle.exports.specs.Reply.{stepReply}
+use Rattle.reply.specs.Reply.{stepReply}
 use Rattle.exports.proofs.calls.scion_standard_path_egress.Statement.{statement}
 use Rattle.exports.proofs.calls.scion_standard_path_egress.Tie as tie
 

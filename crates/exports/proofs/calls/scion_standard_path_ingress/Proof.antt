@@ -1,6 +1,6 @@
 use borrow.Author.Needs.{needs}
 use mathlib.Core.Path.{ap, _∙_}
-use Rattle.exports.specs.Reply.{ingressReply}
+use Rattle.reply.specs.Reply.{ingressReply}
 use Rattle.exports.proofs.calls.scion_standard_path_ingress.Statement.{statement}
 use Rattle.exports.proofs.calls.scion_standard_path_ingress.Tie as tie
 

@@ -1,6 +1,6 @@
 use borrow.Author.Needs.{needs}
 use mathlib.Core.Path.{ap, _∙_}
-use Rattle.exports.specs.Reply.{reversalReply}
+use Rattle.reply.specs.Reply.{reversalReply}
 use Rattle.exports.proofs.calls.scion_try_reverse.Statement.{statement}
 use Rattle.exports.proofs.calls.scion_try_reverse.Tie as tie
 

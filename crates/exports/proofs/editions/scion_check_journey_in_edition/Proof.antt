@@ -1,6 +1,6 @@
 use borrow.Author.Needs.{needs}
 use mathlib.Core.Path.{ap, _∙_}
-use Rattle.exports.specs.Reply.{journeyReply}
+use Rattle.reply.specs.Reply.{journeyReply}
 use Rattle.exports.proofs.editions.scion_check_journey_in_edition.Statement.{statement}
 use Rattle.exports.proofs.editions.scion_check_journey_in_edition.Tie as tie
 

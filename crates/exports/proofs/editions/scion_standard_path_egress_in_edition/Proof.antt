@@ -1,6 +1,6 @@
 use borrow.Author.Needs.{needs}
 use mathlib.Core.Path.{ap, _∙_}
-use Rattle.exports.specs.Reply.{stepReply}
+use Rattle.reply.specs.Reply.{stepReply}
 use Rattle.exports.proofs.editions.scion_standard_path_egress_in_edition.Statement.{statement}
 use Rattle.exports.proofs.editions.scion_standard_path_egress_in_edition.Tie as tie
 

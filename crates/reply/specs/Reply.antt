@@ -24,7 +24,7 @@ use Rattle.scmp.specs.declared.ScmpError.the-variants.{NoMessage}
 use Rattle.journey.specs.Verdict.{journeyNumber}
 use Rattle.journey.specs.declared.answer.Verdict.{Verdict}
 use Rattle.journey.specs.declared.answer.Verdict.the-variants as verdict
-use Rattle.exports.specs.declared.reply.Reply.{Reply}
+use Rattle.reply.specs.declared.Reply.{Reply}
 
 -- with the SCMP error's type, code, and pointer or interface; 0 for each where there is none
 abbrev pub reply : ℕ → List ℕ → ScmpError → Reply

@@ -1,7 +1,7 @@
 use borrow.Author.Needs.{needs}
-use Rattle.exports.specs.Reply.{ingressReply}
-use Rattle.exports.proofs.reply.ingress_reply.Statement.{statement}
-use Rattle.exports.proofs.reply.ingress_reply.Tie as tie
+use Rattle.reply.specs.Reply.{ingressReply}
+use Rattle.reply.proofs.ingress_reply.Statement.{statement}
+use Rattle.reply.proofs.ingress_reply.Tie as tie
 
 returns : tie.Need-returns
 unfolding ingressReply

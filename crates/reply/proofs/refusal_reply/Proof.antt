@@ -1,8 +1,8 @@
 use borrow.Author.Needs.{needs}
 use mathlib.Core.Path.{sym, _∙_}
-use Rattle.exports.specs.Reply.{refusalReply}
-use Rattle.exports.proofs.reply.refusal_reply.Statement.{statement}
-use Rattle.exports.proofs.reply.refusal_reply.Tie as tie
+use Rattle.reply.specs.Reply.{refusalReply}
+use Rattle.reply.proofs.refusal_reply.Statement.{statement}
+use Rattle.reply.proofs.refusal_reply.Tie as tie
 
 returns : tie.Need-returns
 unfolding refusalReply

@@ -1,8 +1,8 @@
 use borrow.Author.Needs.{needs}
 use mathlib.Core.Path.{_∙_}
-use Rattle.exports.specs.Reply.{segmentReply}
-use Rattle.exports.proofs.reply.segment_reply.Statement.{statement}
-use Rattle.exports.proofs.reply.segment_reply.Tie as tie
+use Rattle.reply.specs.Reply.{segmentReply}
+use Rattle.reply.proofs.segment_reply.Statement.{statement}
+use Rattle.reply.proofs.segment_reply.Tie as tie
 
 returns : tie.Need-returns
 unfolding segmentReply

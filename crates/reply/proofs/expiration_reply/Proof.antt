@@ -1,7 +1,7 @@
 use borrow.Author.Needs.{needs}
-use Rattle.exports.specs.Reply.{expirationReply}
-use Rattle.exports.proofs.reply.expiration_reply.Statement.{statement}
-use Rattle.exports.proofs.reply.expiration_reply.Tie as tie
+use Rattle.reply.specs.Reply.{expirationReply}
+use Rattle.reply.proofs.expiration_reply.Statement.{statement}
+use Rattle.reply.proofs.expiration_reply.Tie as tie
 
 returns : tie.Need-returns
 unfolding expirationReply

@@ -1,7 +1,7 @@
 use borrow.Author.Needs.{needs}
-use Rattle.exports.specs.Reply.{stepReply}
-use Rattle.exports.proofs.reply.step_reply.Statement.{statement}
-use Rattle.exports.proofs.reply.step_reply.Tie as tie
+use Rattle.reply.specs.Reply.{stepReply}
+use Rattle.reply.proofs.step_reply.Statement.{statement}
+use Rattle.reply.proofs.step_reply.Tie as tie
 
 returns : tie.Need-returns
 unfolding stepReply

@@ -1,6 +1,6 @@
 use borrow.Author.Needs.{needs}
-use Rattle.exports.proofs.reply.action_reply.Statement.{statement}
-use Rattle.exports.proofs.reply.action_reply.Tie as tie
+use Rattle.reply.proofs.action_reply.Statement.{statement}
+use Rattle.reply.proofs.action_reply.Tie as tie
 
 returns : tie.Need-returns
 returns c =

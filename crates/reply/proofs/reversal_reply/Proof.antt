@@ -1,8 +1,8 @@
 use borrow.Author.Needs.{needs}
 use mathlib.Core.Path.{_∙_}
-use Rattle.exports.specs.Reply.{reversalReply}
-use Rattle.exports.proofs.reply.reversal_reply.Statement.{statement}
-use Rattle.exports.proofs.reply.reversal_reply.Tie as tie
+use Rattle.reply.specs.Reply.{reversalReply}
+use Rattle.reply.proofs.reversal_reply.Statement.{statement}
+use Rattle.reply.proofs.reversal_reply.Tie as tie
 
 returns : tie.Need-returns
 unfolding reversalReply

@@ -1,8 +1,8 @@
 use borrow.Author.Needs.{needs}
 use mathlib.Core.Path.{_∙_}
-use Rattle.exports.specs.Reply.{journeyReply}
-use Rattle.exports.proofs.reply.journey_reply.Statement.{statement}
-use Rattle.exports.proofs.reply.journey_reply.Tie as tie
+use Rattle.reply.specs.Reply.{journeyReply}
+use Rattle.reply.proofs.journey_reply.Statement.{statement}
+use Rattle.reply.proofs.journey_reply.Tie as tie
 
 returns : tie.Need-returns
 unfolding journeyReply

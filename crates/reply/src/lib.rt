@@ -15,8 +15,8 @@ ghost use mathlib.Core.Path.{_≡_};
 ghost use mathlib.Core.List.{[], _∷_};
 ghost use Rattle.answers.specs.Answer.{flag};
 ghost use Rattle.scmp.specs.declared.ScmpError.the-variants.{NoMessage};
-ghost use Rattle.exports.specs.Reply.{reply, refusalReply, actionReply, stepReply, ingressReply};
-ghost use Rattle.exports.specs.Reply.{reversalReply, expirationReply, segmentReply, journeyReply};
+ghost use Rattle.reply.specs.Reply.{reply, refusalReply, actionReply, stepReply, ingressReply};
+ghost use Rattle.reply.specs.Reply.{reversalReply, expirationReply, segmentReply, journeyReply};
 
 // 01's number for a refusal, one from 100 on for an action; the values it carries, in 01's order, and how many they are;
 // the SCMP error's type (0 for none), code, and pointer or interface.
