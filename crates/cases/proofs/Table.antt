@@ -7,9 +7,9 @@ use mathlib.Core.Path.{_≡_, refl}
 use lib.Dec.{eqb}
 use lib.ListN.{replicate}
 use Rattle.aes_sbox.specs.Field.{mul, inverse, affine, substitutionValue, sBox, subByte}
-use Rattle.aes.specs.Block.{xorBlock}
+use Rattle.aes_words.specs.Block.{xorBlock, xorWord}
 use Rattle.aes.specs.Cipher.{subBytes, shiftRows, mixColumns, round, cipher}
-use Rattle.aes.specs.KeyExpansion.{xorWord, rotWord, subWord, keyExpansion, roundKeys}
+use Rattle.aes_keys.specs.KeyExpansion.{rotWord, subWord, keyExpansion, roundKeys}
 use Rattle.cmac.specs.Cmac.{shiftLeft, doubled, subkey1, blockAt, lastBlock, chained, macWith, aesCmac}
 use Rattle.hop_mac.specs.Mac.{macInput, fullHopMac, hopMac, macBetaStep}
 use Rattle.standard_path.specs.Meta.{setCurrInf, setCurrHf}

@@ -38,7 +38,7 @@ fn validate_egress(forwarding_key: &ForwardingKey, at: StandardValidator, path: 
         return Validation::Valid;
     }
     let table = aes::round_table();
-    let round_keys = aes::expand_key(*forwarding_key);
+    let round_keys = aes_keys::expand_key(*forwarding_key);
     let k1 = cmac::subkey_with(&table, round_keys);
     let segment_id = fields::segment_id(info);
     validate_mac(&table, round_keys, k1, hop_index, hop, info, segment_id)

@@ -1,7 +1,7 @@
 use borrow.Author.Needs.{needs}
-use Rattle.aes.proofs.WordBytes.{next-words-law}
-use Rattle.aes.proofs.next_words.Statement.{statement}
-use Rattle.aes.proofs.next_words.Tie as tie
+use Rattle.aes_keys.proofs.NextWords.{next-words-law}
+use Rattle.aes_keys.proofs.next_words.Statement.{statement}
+use Rattle.aes_keys.proofs.next_words.Tie as tie
 
 returns : tie.Need-returns
 returns c = next-words-law _ _ _ (search needs) (c .rot-sub-word .ensures)

@@ -1,10 +1,10 @@
 use borrow.Author.Needs.{needs}
 use mathlib.Core.Path.{_∙_}
 use mathlib.Core.List.{[], _∷_}
-use Rattle.aes.specs.Words.{wordBytes}
-use Rattle.aes.specs.KeyExpansion.{subWord, rotWord}
-use Rattle.aes.proofs.rot_sub_word.Statement.{statement}
-use Rattle.aes.proofs.rot_sub_word.Tie as tie
+use Rattle.aes_words.specs.Words.{wordBytes}
+use Rattle.aes_keys.specs.KeyExpansion.{subWord, rotWord}
+use Rattle.aes_keys.proofs.rot_sub_word.Statement.{statement}
+use Rattle.aes_keys.proofs.rot_sub_word.Tie as tie
 
 returns : tie.Need-returns
 unfolding subWord rotWord wordBytes

@@ -1,7 +1,7 @@
 use borrow.Author.Needs.{needs}
-use Rattle.aes.proofs.WordBytes.{bytes-rotate}
-use Rattle.aes.proofs.words.rotate.Statement.{statement}
-use Rattle.aes.proofs.words.rotate.Tie as tie
+use Rattle.aes_words.proofs.WordBytes.{bytes-rotate}
+use Rattle.aes_words.proofs.rotate.Statement.{statement}
+use Rattle.aes_words.proofs.rotate.Tie as tie
 
 returns : tie.Need-returns
 returns c = bytes-rotate (c .args .word) (search needs)

@@ -1,9 +1,8 @@
 // Four bytes in a machine word, the first in its lowest place; a block as four such words.
 ghost use mathlib.Core.Path.{_≡_};
 ghost use mathlib.Core.List.{[], _∷_};
-ghost use Rattle.aes.specs.Block.{xorBlock};
-ghost use Rattle.aes.specs.Words.{wordBytes, wordsBytes, blockWords, stateBytes};
-ghost use Rattle.aes.specs.ByTable.{rotated};
+ghost use Rattle.aes_words.specs.Block.{xorBlock};
+ghost use Rattle.aes_words.specs.Words.{wordBytes, wordsBytes, blockWords, stateBytes, rotated};
 
 pub fn word(byte0: u8, byte1: u8, byte2: u8, byte3: u8) -> u32
     ensures { λ r. ⌜ wordBytes r ≡ byte0 ∷ byte1 ∷ byte2 ∷ byte3 ∷ [] ⌝ }
@@ -35,23 +34,27 @@ pub fn words(block: [u8; 16]) -> [u32; 4]
 pub fn unwords(words: [u32; 4]) -> [u8; 16]
     ensures { λ r. ⌜ r ≡ stateBytes words ⌝ }
 {
+    let word0 = words[0];
+    let word1 = words[1];
+    let word2 = words[2];
+    let word3 = words[3];
     [
-        (words[0] % 0x100) as u8,
-        (words[0] / 0x100 % 0x100) as u8,
-        (words[0] / 0x1_0000 % 0x100) as u8,
-        (words[0] / 0x100_0000 % 0x100) as u8,
-        (words[1] % 0x100) as u8,
-        (words[1] / 0x100 % 0x100) as u8,
-        (words[1] / 0x1_0000 % 0x100) as u8,
-        (words[1] / 0x100_0000 % 0x100) as u8,
-        (words[2] % 0x100) as u8,
-        (words[2] / 0x100 % 0x100) as u8,
-        (words[2] / 0x1_0000 % 0x100) as u8,
-        (words[2] / 0x100_0000 % 0x100) as u8,
-        (words[3] % 0x100) as u8,
-        (words[3] / 0x100 % 0x100) as u8,
-        (words[3] / 0x1_0000 % 0x100) as u8,
-        (words[3] / 0x100_0000 % 0x100) as u8,
+        (word0 % 0x100) as u8,
+        (word0 / 0x100 % 0x100) as u8,
+        (word0 / 0x1_0000 % 0x100) as u8,
+        (word0 / 0x100_0000 % 0x100) as u8,
+        (word1 % 0x100) as u8,
+        (word1 / 0x100 % 0x100) as u8,
+        (word1 / 0x1_0000 % 0x100) as u8,
+        (word1 / 0x100_0000 % 0x100) as u8,
+        (word2 % 0x100) as u8,
+        (word2 / 0x100 % 0x100) as u8,
+        (word2 / 0x1_0000 % 0x100) as u8,
+        (word2 / 0x100_0000 % 0x100) as u8,
+        (word3 % 0x100) as u8,
+        (word3 / 0x100 % 0x100) as u8,
+        (word3 / 0x1_0000 % 0x100) as u8,
+        (word3 / 0x100_0000 % 0x100) as u8,
     ]
 }
 

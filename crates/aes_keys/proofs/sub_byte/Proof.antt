@@ -4,8 +4,8 @@ use mathlib.Core.Path.{ap}
 use mathlib.Core.List.{List}
 use lib.ListN.{getD}
 use Rattle.aes_sbox.specs.Field.{subByte}
-use Rattle.aes.proofs.sub_byte.Statement.{statement}
-use Rattle.aes.proofs.sub_byte.Tie as tie
+use Rattle.aes_keys.proofs.sub_byte.Statement.{statement}
+use Rattle.aes_keys.proofs.sub_byte.Tie as tie
 
 returns : tie.Need-returns
 unfolding subByte

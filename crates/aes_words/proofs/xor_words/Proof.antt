@@ -1,7 +1,7 @@
 use borrow.Author.Needs.{needs}
-use Rattle.aes.proofs.WordBytes.{state-xor}
-use Rattle.aes.proofs.words.xor_words.Statement.{statement}
-use Rattle.aes.proofs.words.xor_words.Tie as tie
+use Rattle.aes_words.proofs.WordBytes.{state-xor}
+use Rattle.aes_words.proofs.xor_words.Statement.{statement}
+use Rattle.aes_words.proofs.xor_words.Tie as tie
 
 returns : tie.Need-returns
 returns c = state-xor _ _

@@ -8,8 +8,10 @@ use native.Mathlib.Omega.{arith}
 use borrow.Author.Tests.{eq-eqb, ne-eqb}
 use lib.ListN.{getD, length}
 use Rattle.aes_sbox.specs.Field.{mul}
-use Rattle.aes.specs.KeyExpansion.{wordAt, xorWord, temp, rcon, rconByte, wordsFrom, keyExpansion, byFours, roundKeys, joined}
-use Rattle.aes.specs.Words.{blockWords, nextWords}
+use Rattle.aes_keys.specs.KeyExpansion.{temp, rcon, rconByte, wordsFrom, keyExpansion, byFours, roundKeys}
+use Rattle.aes_keys.specs.Inner.{nextWords}
+use Rattle.aes_words.specs.Block.{wordAt, xorWord, joined}
+use Rattle.aes_words.specs.Words.{blockWords}
 use Rattle.octets.proofs.Below.{same-below}
 use Rattle.octets.proofs.Lists.{tabulate-getD}
 
@@ -50,7 +52,7 @@ next-in w i p =
 
 next-all : (key : List ℕ) (i : ℕ) → 4 + i < 44 → Next 4 (keyExpansion key) i
 unfolding keyExpansion
-next-all key i h = next-from i 44 4 _ _ _ _ (omega arith)
+next-all key i h = next-from i 44 4 (wordAt key 0) (wordAt key 1) (wordAt key 2) (wordAt key 3) (omega arith)
 
 -- w[i] = w[i - 4] xor temp, for 4 ≤ i < 44
 pub next-word : (key : List ℕ) (i : ℕ) → 4 + i < 44

@@ -4,12 +4,13 @@ use mathlib.Core.Path.{_≡_, sym, ap, _∙_}
 use mathlib.Core.List.{[]}
 use native.Mathlib.Omega.{arith}
 use lib.ListN.{getD, length}
-use Rattle.aes.specs.Words.{wordsBytes}
-use Rattle.aes.proofs.KeyWords.{keyWords, round-key, first-key, key-count, next-key}
+use Rattle.aes_words.specs.Words.{wordsBytes}
+use Rattle.aes_keys.proofs.KeyWords.{keyWords, round-key, first-key, key-count, next-key}
 use Rattle.octets.proofs.Lists.{Filled, filled-first, filled-more, filled-all}
-use Rattle.aes.specs.KeyExpansion.{roundKeys, joined}
-use Rattle.aes.proofs.expand_with.Statement.{statement}
-use Rattle.aes.proofs.expand_with.Tie as tie
+use Rattle.aes_words.specs.Block.{joined}
+use Rattle.aes_keys.specs.KeyExpansion.{roundKeys}
+use Rattle.aes_keys.proofs.expand_with.Statement.{statement}
+use Rattle.aes_keys.proofs.expand_with.Tie as tie
 
 abbrev Inv-loop : tie.InvT-loop
 Inv-loop sbox rcon round-keys₀ last₀ i₀ round-keys last i = (1 ≤ i) × ((wordsBytes last ≡ keyWords (getD round-keys₀ 0 []) (i - 1)) × Filled [] (roundKeys (getD round-keys₀ 0 [])) round-keys i)

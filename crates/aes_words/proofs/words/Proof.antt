@@ -1,8 +1,8 @@
 use borrow.Author.Needs.{needs}
 use mathlib.Core.List.{[], _∷_}
-use Rattle.aes.specs.Words.{wordsBytes, blockWords}
-use Rattle.aes.proofs.words.words.Statement.{statement}
-use Rattle.aes.proofs.words.words.Tie as tie
+use Rattle.aes_words.specs.Words.{wordsBytes, blockWords}
+use Rattle.aes_words.proofs.words.Statement.{statement}
+use Rattle.aes_words.proofs.words.Tie as tie
 
 returns : tie.Need-returns
 unfolding wordsBytes blockWords

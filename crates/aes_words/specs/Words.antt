@@ -3,7 +3,7 @@
 use Prim.Native.Nat.{ℕ, _/_, _%_}
 use mathlib.Core.List.{List, [], _∷_}
 use lib.ListN.{getD}
-use Rattle.aes.specs.KeyExpansion.{wordAt, xorWord, rotWord, subWord, joined}
+use Rattle.aes_words.specs.Block.{wordAt, joined}
 
 -- the bytes of a machine word
 unfoldable pub wordBytes : ℕ → List ℕ
@@ -21,11 +21,6 @@ blockWords b = wordAt b 0 ∷ wordAt b 1 ∷ wordAt b 2 ∷ wordAt b 3 ∷ []
 abbrev pub stateBytes : List ℕ → List ℕ
 stateBytes w = joined (wordsBytes w)
 
--- FIPS 197, section 5.2: the words w[i], .., w[i + 3] from w[i - 4], .., w[i - 1], i a multiple of 4, and Rcon[i / 4]
-unfoldable pub nextWords : List ℕ → List (List ℕ) → List (List ℕ)
-nextWords rc w =
-    let a = xorWord (getD w 0 []) (xorWord (subWord (rotWord (getD w 3 []))) rc) in
-    let b = xorWord (getD w 1 []) a in
-    let c = xorWord (getD w 2 []) b in
-    let d = xorWord (getD w 3 []) c in
-    a ∷ b ∷ c ∷ d ∷ []
+-- four bytes one place on, the last to the front
+abbrev pub rotated : List ℕ → List ℕ
+rotated a = getD a 3 0 ∷ getD a 0 0 ∷ getD a 1 0 ∷ getD a 2 0 ∷ []

@@ -6,13 +6,10 @@ use Prim.Native.Nat.{ℕ, _+_, _*_, _/_, _%_, _<_}
 use native.Mathlib.Omega.{arith}
 use lib.Bits.{bitXor, xor-shr, xor-mod}
 use lib.ListN.{getD}
-use Rattle.aes.specs.Block.{xorBlock}
-use Rattle.aes.specs.KeyExpansion.{xorWord, rotWord, subWord, joined}
-use Rattle.aes.specs.Words.{wordBytes, wordsBytes, stateBytes, blockWords, nextWords}
-use Rattle.aes.specs.ByTable.{rotated}
-use Rattle.octets.proofs.Xor.{xor-assoc}
+use Rattle.aes_words.specs.Block.{xorBlock, xorWord, joined}
+use Rattle.aes_words.specs.Words.{wordBytes, wordsBytes, stateBytes, blockWords, rotated}
 
-bytes-eq : (w : ℕ) {a b c d : ℕ} → w % 256 ≡ a → w / 256 % 256 ≡ b → w / 65536 % 256 ≡ c → w / 16777216 % 256 ≡ d
+pub bytes-eq : (w : ℕ) {a b c d : ℕ} → w % 256 ≡ a → w / 256 % 256 ≡ b → w / 65536 % 256 ≡ c → w / 16777216 % 256 ≡ d
     → wordBytes w ≡ a ∷ b ∷ c ∷ d ∷ []
 unfolding wordBytes
 bytes-eq w p q r s = λ i. p i ∷ q i ∷ r i ∷ s i ∷ []
@@ -70,27 +67,6 @@ unfolding xorBlock xorWord wordsBytes wordBytes
 state-xor a b =
     state-of _ _ _ _ (bytes-xor (getD a 0 0) (getD b 0 0)) (bytes-xor (getD a 1 0) (getD b 1 0)) (bytes-xor (getD a 2 0) (getD b 2 0))
     (bytes-xor (getD a 3 0) (getD b 3 0))
-
--- the next round key, g the word that is added to the first; the code sums the old words before it adds g
-pub next-words-law : (k : List ℕ) (rc g : ℕ) → rc < 256 → wordBytes g ≡ subWord (rotWord (wordBytes (getD k 3 0)))
-    → wordsBytes
-    (bitXor (getD k 0 0) (bitXor g rc) ∷ bitXor (bitXor (getD k 1 0) (getD k 0 0)) (bitXor g rc)
-    ∷ bitXor (bitXor (getD k 2 0) (bitXor (getD k 1 0) (getD k 0 0))) (bitXor g rc)
-    ∷ bitXor (bitXor (getD k 3 0) (bitXor (getD k 2 0) (bitXor (getD k 1 0) (getD k 0 0)))) (bitXor g rc) ∷ [])
-    ≡ nextWords (rc ∷ 0 ∷ 0 ∷ 0 ∷ []) (wordsBytes k)
-unfolding nextWords wordsBytes
-next-words-law k rc g h q =
-    let w0 : ℕ = getD k 0 0 in
-    let w1 : ℕ = getD k 1 0 in
-    let w2 : ℕ = getD k 2 0 in
-    let w3 : ℕ = getD k 3 0 in
-    let x : ℕ = bitXor g rc in
-    let hr : wordBytes rc ≡ rc ∷ 0 ∷ 0 ∷ 0 ∷ [] = bytes-eq rc (omega arith) (omega arith) (omega arith) (omega arith) in
-    let ha = bytes-xor-of w0 x refl (bytes-xor-of g rc q hr) in
-    let hb = ap wordBytes (xor-assoc w1 w0 x) ∙ bytes-xor-of w1 (bitXor w0 x) refl ha in
-    let hc = ap wordBytes (xor-assoc w2 (bitXor w1 w0) x) ∙ bytes-xor-of w2 (bitXor (bitXor w1 w0) x) refl hb in
-    let hd = ap wordBytes (xor-assoc w3 (bitXor w2 (bitXor w1 w0)) x) ∙ bytes-xor-of w3 (bitXor (bitXor w2 (bitXor w1 w0)) x) refl hc in
-    λ i. ha i ∷ hb i ∷ hc i ∷ hd i ∷ []
 
 -- a block that is taken word by word is xored as it is
 pub xor-words : (a b : List ℕ) → xorBlock (joined (blockWords a)) (joined (blockWords b)) ≡ xorBlock a b

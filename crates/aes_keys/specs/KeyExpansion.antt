@@ -1,20 +1,13 @@
 -- FIPS 197, section 5.2, for AES-128: 44 words w[0], .., w[43], each the list of its 4 bytes.
 -- Assumes nothing.
-use Prim.Native.Nat.{ℕ, zero, suc, _+_, _*_, _/_, _%_}
+use Prim.Native.Nat.{ℕ, zero, suc, _+_, _/_, _%_}
 use mathlib.Core.Bool.{cond}
-use mathlib.Core.List.{List, [], _∷_, _++_}
-use lib.Bits.{bitXor}
+use mathlib.Core.List.{List, [], _∷_}
 use lib.Dec.{eqb}
 use lib.ListN.{getD, drop}
 use Rattle.octets.specs.Bytes.{tabulate}
 use Rattle.aes_sbox.specs.Field.{mul, subByte}
-
--- word i of a list of bytes
-abbrev pub wordAt : List ℕ → ℕ → List ℕ
-wordAt k i = tabulate 4 0 (λ j. getD k (4 * i + j) 0)
-
-unfoldable pub xorWord : List ℕ → List ℕ → List ℕ
-xorWord a b = tabulate 4 0 (λ j. bitXor (getD a j 0) (getD b j 0))
+use Rattle.aes_words.specs.Block.{wordAt, xorWord, joined}
 
 unfoldable pub rotWord : List ℕ → List ℕ
 rotWord a = tabulate 4 0 (λ j. getD a ((j + 1) % 4) 0)
@@ -42,10 +35,6 @@ wordsFrom (suc n) i a b c d = a ∷ wordsFrom n (suc i) b c d (xorWord a (temp i
 
 unfoldable pub keyExpansion : List ℕ → List (List ℕ)
 keyExpansion key = wordsFrom 44 4 (wordAt key 0) (wordAt key 1) (wordAt key 2) (wordAt key 3)
-
--- the first four words, one after the other
-abbrev pub joined : List (List ℕ) → List ℕ
-joined w = getD w 0 [] ++ (getD w 1 [] ++ (getD w 2 [] ++ getD w 3 []))
 
 -- n round keys, each of four words
 abbrev pub byFours : ℕ → List (List ℕ) → List (List ℕ)
