@@ -5,12 +5,11 @@ use mathlib.Core.List.{List, [], _∷_}
 use Prim.Native.Nat.{ℕ, zero, suc, _+_, _*_}
 use native.Mathlib.Omega.{arith}
 use lib.ListN.{getD}
-use Rattle.aes.specs.Block.{xorBlock}
+use Rattle.aes_words.specs.Block.{xorBlock, xorWord, joined}
 use Rattle.aes_sbox.specs.Field.{mul, sBox, subByte}
 use Rattle.aes.specs.Cipher.{mixedByte, subBytes, shiftRows, mixColumns, round, rounds, cipher}
-use Rattle.aes.specs.KeyExpansion.{xorWord, joined}
-use Rattle.aes.specs.Words.{blockWords}
-use Rattle.aes.specs.ByTable.{spreads, roundTable, rotated, entryOf, substitutedBy, columnBy, lastColumnBy, columns, roundBy, lastRoundBy, roundsBy, cipherBy}
+use Rattle.aes_words.specs.Words.{blockWords, rotated}
+use Rattle.aes.specs.ByTable.{spreads, roundTable, entryOf, substitutedBy, columnBy, lastColumnBy, columns, roundBy, lastRoundBy, roundsBy, cipherBy}
 use Rattle.octets.proofs.Xor.{xor-turn}
 
 abbrev spread : ℕ → List ℕ

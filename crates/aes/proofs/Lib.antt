@@ -1,3 +1,1 @@
-pub mod WordBytes
-pub mod KeyWords
 pub mod FastCipher

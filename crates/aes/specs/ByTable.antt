@@ -5,10 +5,10 @@ use Prim.Native.Nat.{ℕ, zero, suc, _+_, _*_}
 use mathlib.Core.List.{List, [], _∷_, _++_}
 use lib.ListN.{getD}
 use Rattle.octets.specs.Bytes.{tabulate}
-use Rattle.aes.specs.Block.{xorBlock}
 use Rattle.aes_sbox.specs.Field.{mul, sBox}
+use Rattle.aes_words.specs.Block.{xorBlock, xorWord}
+use Rattle.aes_words.specs.Words.{rotated}
 use Rattle.aes.specs.Cipher.{cell}
-use Rattle.aes.specs.KeyExpansion.{xorWord}
 
 -- for each byte of a list what it adds, as a substituted byte of row 0, to its mixed column
 abbrev pub spreads : List ℕ → List ℕ
@@ -18,10 +18,6 @@ spreads (s ∷ l) = mul 2 s ∷ s ∷ s ∷ mul 3 s ∷ spreads l
 -- the table of the S-box
 unfoldable pub roundTable : List ℕ
 roundTable = spreads sBox
-
--- four bytes one place on, the last to the front
-abbrev pub rotated : List ℕ → List ℕ
-rotated a = getD a 3 0 ∷ getD a 0 0 ∷ getD a 1 0 ∷ getD a 2 0 ∷ []
 
 -- a table's four bytes for x
 abbrev pub entryOf : List ℕ → ℕ → List ℕ

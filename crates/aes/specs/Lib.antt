@@ -1,5 +1,2 @@
-pub mod Block
 pub mod Cipher
-pub mod KeyExpansion
-pub mod Words
 pub mod ByTable

@@ -33,7 +33,7 @@ abbrev pub squares : ℕ → ℕ → ℕ
 squares zero a = 1
 squares (suc n) a = let q = mul a a in mul q (squares n q)
 
--- the multiplicative inverse, 0 for 0, as a^254: `Inverse.inverse-right` and `Inverse.inverse-only` show that it is one
+-- the multiplicative inverse, 0 for 0, as a^254: `inverse-right` and `inverse-only` of aes_sbox_laws show that it is one
 unfoldable pub inverse : ℕ → ℕ
 inverse a = squares 7 a
 

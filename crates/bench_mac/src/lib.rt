@@ -46,7 +46,7 @@ pub extern "C" fn bench_three_hop_macs(
         ∷ [] ⌝ }
 {
     let table = aes::round_table();
-    let round_keys = aes::expand_key(*key);
+    let round_keys = aes_keys::expand_key(*key);
     let k1 = cmac::subkey_with(&table, round_keys);
     let a = hop_mac::calculate_hop_mac_with(
         &table,

@@ -1,1 +1,2 @@
+pub mod Macs
 pub mod Table

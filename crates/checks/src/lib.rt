@@ -60,7 +60,7 @@ fn validate_checked(
         (keyMac (now («forwarding_key» .entry))) at (now (path .entry)) change)) ⌝ }
 {
     let table = aes::round_table();
-    let round_keys = aes::expand_key(*forwarding_key);
+    let round_keys = aes_keys::expand_key(*forwarding_key);
     let k1 = cmac::subkey_with(&table, round_keys);
     let hop_index = view::curr_hop_field_idx(path);
     let here = validate_mac(
@@ -146,7 +146,7 @@ pub fn validate_egress(
         return Validation::Valid;
     }
     let table = aes::round_table();
-    let round_keys = aes::expand_key(*forwarding_key);
+    let round_keys = aes_keys::expand_key(*forwarding_key);
     let k1 = cmac::subkey_with(&table, round_keys);
     let segment_id = fields::segment_id(info);
     validate_mac(&table, round_keys, k1, hop_index, hop, info, segment_id)

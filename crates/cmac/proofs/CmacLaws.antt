@@ -6,8 +6,8 @@ use Prim.Native.Nat.{ℕ, _-_, _*_}
 use native.Mathlib.Omega.{arith}
 use borrow.Author.Tests.{eq-eqb, ne-eqb}
 use lib.ListN.{length}
-use Rattle.aes.specs.Block.{xorBlock}
-use Rattle.aes.specs.KeyExpansion.{roundKeys}
+use Rattle.aes_words.specs.Block.{xorBlock}
+use Rattle.aes_keys.specs.KeyExpansion.{roundKeys}
 use Rattle.aes.specs.ByTable.{roundTable, cipherBy}
 use Rattle.cmac.specs.Cmac.{doubled, subkey1, blockCount, blockAt, paddingAt, lastBlock, chained, macWith, aesCmac}
 use Rattle.aes.proofs.FastCipher.{cipher-by-table}

@@ -14,7 +14,7 @@ use lib.ListN.{length, getD, List·getD-eq-default}
 use lib.Pow.{pow-add}
 use borrow.Author.Tests.{lt-ltb, le-ltb, ltb-false}
 use Rattle.octets.specs.Bytes.{tabulate}
-use Rattle.aes.specs.Block.{xorBlock}
+use Rattle.aes_words.specs.Block.{xorBlock}
 use Rattle.cmac.specs.Cmac.{constRb, carryInto, shiftLeft, doubled}
 use Rattle.octets.proofs.Lists.{length-tabulate, tabulate-getD}
 

@@ -5,9 +5,9 @@ use mathlib.Core.Bool.{Bool, cond}
 use mathlib.Core.List.{List}
 use lib.Dec.{eqb, ltb}
 use lib.ListN.{getD, length}
-use Rattle.aes.specs.Block.{block, xorBlock}
+use Rattle.aes_words.specs.Block.{block, xorBlock}
 use Rattle.aes.specs.Cipher.{cipher}
-use Rattle.aes.specs.KeyExpansion.{roundKeys}
+use Rattle.aes_keys.specs.KeyExpansion.{roundKeys}
 
 -- const_Zero and const_Rb
 abbrev pub constZero : List ℕ

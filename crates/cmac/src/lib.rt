@@ -1,14 +1,14 @@
 // AES-CMAC, RFC 4493, equal to its definition on all inputs.
 use aes::encrypt_with;
 use aes::encrypt_words;
-use aes::expand_key;
 use aes::round_table;
-use aes::words::words;
-use aes::words::xor_words;
+use aes_keys::expand_key;
+use aes_words::words;
+use aes_words::xor_words;
 ghost use mathlib.Core.Path.{_≡_};
 ghost use Prim.Native.Nat.{_+_, _-_, _*_, _/_, _%_, _≤_};
 ghost use lib.ListN.{length};
-ghost use Rattle.aes.specs.Block.{xorBlock};
+ghost use Rattle.aes_words.specs.Block.{xorBlock};
 ghost use Rattle.aes.specs.ByTable.{cipherBy};
 ghost use Rattle.cmac.specs.Cmac.{shiftLeft, doubled, subkey1, blockCount, blockAt, paddedByte, paddingAt};
 ghost use Rattle.cmac.specs.Cmac.{lastBlock, chained, macWith, aesCmac};

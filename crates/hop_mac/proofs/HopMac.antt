@@ -4,7 +4,7 @@ use mathlib.Core.Path.{_≡_, refl, ap}
 use mathlib.Core.List.{List, [], _∷_, _++_}
 use Prim.Native.Nat.{ℕ}
 use lib.ListN.{take}
-use Rattle.aes.specs.KeyExpansion.{roundKeys}
+use Rattle.aes_keys.specs.KeyExpansion.{roundKeys}
 use Rattle.aes.specs.ByTable.{roundTable, cipherBy}
 use Rattle.cmac.specs.Cmac.{subkey1, macWith}
 use Rattle.cmac.proofs.CmacLaws.{cmac-from-schedule}

@@ -79,7 +79,7 @@ fn mac_fits(table: &[u8; 1024], key: [u8; 16], info: &[u8], hop: &[u8], segment_
     ensures { λ r. ⌜ r ≡ eqb (rightMac (keyMac key) (now (hop .entry)) (now (info .entry)) «segment_id»)
         (macNumber (macField (now (hop .entry)))) ⌝ }
 {
-    let round_keys = aes::expand_key(key);
+    let round_keys = aes_keys::expand_key(key);
     let k1 = cmac::subkey_with(table, round_keys);
     expected_mac(table, round_keys, k1, hop, info, segment_id) == mac_number(fields::mac(hop))
 }

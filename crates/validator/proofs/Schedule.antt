@@ -4,7 +4,7 @@ use mathlib.Core.Path.{_≡_, sym, _∙_}
 use mathlib.Core.Bool.{Bool, false}
 use mathlib.Core.List.{List}
 use Prim.Native.Nat.{ℕ}
-use Rattle.aes.specs.KeyExpansion.{roundKeys}
+use Rattle.aes_keys.specs.KeyExpansion.{roundKeys}
 use Rattle.aes.specs.ByTable.{roundTable, cipherBy}
 use Rattle.cmac.specs.Cmac.{subkey1}
 use Rattle.hop_mac.proofs.HopMac.{hop-mac-from-schedule}

@@ -40,12 +40,12 @@ fn put(label: &[u8], value: &[u8]) {
 }
 
 fn last_round_key(key: [u8; 16]) -> [u8; 16] {
-    let round_keys = aes::expand_key(key);
+    let round_keys = aes_keys::expand_key(key);
     round_keys[10]
 }
 
 fn put_cipher(label: &[u8], key: [u8; 16], input: [u8; 16]) {
-    put(label, &aes::encrypt_block(aes::expand_key(key), input));
+    put(label, &aes::encrypt_block(aes_keys::expand_key(key), input));
 }
 
 fn put_fips_197() {
@@ -61,7 +61,7 @@ fn put_mac(label: &[u8], message: &[u8]) {
 fn put_rfc_4493() {
     put_cipher(b"RFC 4493 AES-128(key,0)", KEY, [0u8; 16]);
     let table = aes::round_table();
-    let k1 = cmac::subkey_with(&table, aes::expand_key(KEY));
+    let k1 = cmac::subkey_with(&table, aes_keys::expand_key(KEY));
     put(b"RFC 4493 K1", &k1);
     put(b"RFC 4493 K2", &cmac::double(k1));
     let message = MESSAGE;
@@ -91,7 +91,7 @@ fn put_hop_mac(
     );
     put(label, &from_key);
     let table = aes::round_table();
-    let round_keys = aes::expand_key(key);
+    let round_keys = aes_keys::expand_key(key);
     let from_schedule = hop_mac::calculate_hop_mac_with(
         &table,
         round_keys,

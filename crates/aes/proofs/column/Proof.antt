@@ -1,7 +1,8 @@
 use borrow.Author.Needs.{needs}
 use mathlib.Core.Path.{ap, _∙_}
-use Rattle.aes.specs.ByTable.{rotated, columnBy}
-use Rattle.aes.proofs.WordBytes.{bytes-xor-of}
+use Rattle.aes_words.specs.Words.{rotated}
+use Rattle.aes.specs.ByTable.{columnBy}
+use Rattle.aes_words.proofs.WordBytes.{bytes-xor-of}
 use Rattle.aes.proofs.column.Statement.{statement}
 use Rattle.aes.proofs.column.Tie as tie
 

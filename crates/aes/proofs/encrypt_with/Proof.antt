@@ -1,6 +1,6 @@
 use borrow.Author.Needs.{needs}
 use mathlib.Core.Path.{ap, _∙_}
-use Rattle.aes.specs.KeyExpansion.{joined}
+use Rattle.aes_words.specs.Block.{joined}
 use Rattle.aes.specs.ByTable.{cipherBy}
 use Rattle.aes.proofs.FastCipher.{cipher-words}
 use Rattle.aes.proofs.encrypt_with.Statement.{statement}

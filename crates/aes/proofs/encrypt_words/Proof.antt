@@ -1,9 +1,8 @@
 use borrow.Author.Needs.{needs}
 use mathlib.Core.Path.{ap, _∙_}
-use Rattle.aes.specs.Block.{xorBlock}
-use Rattle.aes.specs.KeyExpansion.{joined}
+use Rattle.aes_words.specs.Block.{xorBlock, joined}
 use Rattle.aes.specs.ByTable.{roundsBy, cipherBy}
-use Rattle.aes.proofs.WordBytes.{xor-key-words}
+use Rattle.aes_words.proofs.WordBytes.{xor-key-words}
 use Rattle.aes.proofs.encrypt_words.Statement.{statement}
 use Rattle.aes.proofs.encrypt_words.Tie as tie
 

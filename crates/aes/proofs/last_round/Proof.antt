@@ -1,10 +1,9 @@
 use borrow.Author.Needs.{needs}
 use mathlib.Core.Path.{ap, ap₂, _∙_}
-use Rattle.aes.specs.Block.{xorBlock}
-use Rattle.aes.specs.KeyExpansion.{joined}
-use Rattle.aes.specs.Words.{wordBytes, wordsBytes}
+use Rattle.aes_words.specs.Block.{xorBlock, joined}
+use Rattle.aes_words.specs.Words.{wordBytes, wordsBytes}
 use Rattle.aes.specs.ByTable.{lastRoundBy}
-use Rattle.aes.proofs.WordBytes.{state-of, xor-words, xor-key-words}
+use Rattle.aes_words.proofs.WordBytes.{state-of, xor-words, xor-key-words}
 use Rattle.aes.proofs.last_round.Statement.{statement}
 use Rattle.aes.proofs.last_round.Tie as tie
 
@@ -29,20 +28,8 @@ last-round-spec =
     (λ c. search needs)
     (λ c. search needs)
     (λ c κs. search needs)
-    (λ c. search needs)
-    (λ c. search needs)
-    (λ c. search needs)
-    (λ c. search needs)
     (λ c κs. search needs)
-    (λ c. search needs)
-    (λ c. search needs)
-    (λ c. search needs)
-    (λ c. search needs)
     (λ c κs. search needs)
-    (λ c. search needs)
-    (λ c. search needs)
-    (λ c. search needs)
-    (λ c. search needs)
     (λ c κs. search needs)
     (λ c κs. search needs)
     (λ c κs. search needs)

@@ -1,10 +1,9 @@
 use borrow.Author.Needs.{needs}
 use mathlib.Core.Path.{ap, ap₂, _∙_}
-use Rattle.aes.specs.Block.{xorBlock}
-use Rattle.aes.specs.KeyExpansion.{joined}
-use Rattle.aes.specs.Words.{wordBytes, wordsBytes}
+use Rattle.aes_words.specs.Block.{xorBlock, joined}
+use Rattle.aes_words.specs.Words.{wordBytes, wordsBytes}
 use Rattle.aes.specs.ByTable.{roundBy}
-use Rattle.aes.proofs.WordBytes.{state-of, xor-words, xor-key-words}
+use Rattle.aes_words.proofs.WordBytes.{state-of, xor-words, xor-key-words}
 use Rattle.aes.proofs.round.Statement.{statement}
 use Rattle.aes.proofs.round.Tie as tie
 
@@ -27,20 +26,8 @@ round-spec =
     (λ c. search needs)
     (λ c. search needs)
     (λ c κs. search needs)
-    (λ c. search needs)
-    (λ c. search needs)
-    (λ c. search needs)
-    (λ c. search needs)
     (λ c κs. search needs)
-    (λ c. search needs)
-    (λ c. search needs)
-    (λ c. search needs)
-    (λ c. search needs)
     (λ c κs. search needs)
-    (λ c. search needs)
-    (λ c. search needs)
-    (λ c. search needs)
-    (λ c. search needs)
     (λ c κs. search needs)
     (λ c κs. search needs)
     (λ c κs. search needs)

@@ -1,10 +1,9 @@
 use borrow.Author.Needs.{needs}
 use mathlib.Core.Path.{_≡_, ap, ap₂, _∙_}
 use lib.ListN.{length}
-use Rattle.aes.specs.Block.{xorBlock}
-use Rattle.aes.specs.KeyExpansion.{joined}
+use Rattle.aes_words.specs.Block.{xorBlock, joined}
 use Rattle.aes.specs.ByTable.{cipherBy}
-use Rattle.aes.proofs.WordBytes.{xor-words}
+use Rattle.aes_words.proofs.WordBytes.{xor-words}
 use Rattle.cmac.proofs.CmacLaws.{one-block}
 use Rattle.cmac.proofs.aes_cmac_block_with.Statement.{statement}
 use Rattle.cmac.proofs.aes_cmac_block_with.Tie as tie

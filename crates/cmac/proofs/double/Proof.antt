@@ -2,7 +2,7 @@ use borrow.Author.Needs.{needs}
 use Prim.Native.Nat.{ℕ}
 use mathlib.Core.Path.{ap, _∙_}
 use mathlib.Core.List.{List}
-use Rattle.aes.specs.Block.{xorBlock}
+use Rattle.aes_words.specs.Block.{xorBlock}
 use borrow.Author.Tests.{lt-ltb, le-ltb}
 use Rattle.cmac.specs.Cmac.{doubled, constRb}
 use Rattle.cmac.proofs.double.Statement.{statement}

@@ -2,7 +2,7 @@ use borrow.Author.Needs.{needs}
 use Prim.Native.Nat.{ℕ}
 use mathlib.Core.Path.{ap, ap₂, _∙_}
 use mathlib.Core.List.{List}
-use Rattle.aes.specs.Block.{xorBlock}
+use Rattle.aes_words.specs.Block.{xorBlock}
 use Rattle.cmac.proofs.CmacLaws.{last-complete, last-padded}
 use Rattle.cmac.proofs.last_block.Statement.{statement}
 use Rattle.cmac.proofs.last_block.Tie as tie

@@ -2,7 +2,7 @@ use borrow.Author.Needs.{needs}
 use Prim.Native.Nat.{_-_}
 use mathlib.Core.Path.{refl}
 use lib.ListN.{getD}
-use Rattle.aes.specs.Block.{xorBlock}
+use Rattle.aes_words.specs.Block.{xorBlock}
 use lib.Bits.{bitXor}
 use Rattle.octets.proofs.Lists.{Filled, filled-none, tabulated-more, filled-all}
 use Rattle.cmac.proofs.xor_block.Statement.{statement}

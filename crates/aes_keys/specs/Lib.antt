@@ -1,0 +1,2 @@
+pub mod KeyExpansion
+pub mod Inner

@@ -1,0 +1,104 @@
+-- The MACs that the rows of Table.antt ask for, each computed once from FIPS 197 and RFC 4493.
+-- Assumes nothing.
+use Prim.Native.Nat.{ℕ}
+use mathlib.Core.List.{List, [], _∷_}
+use mathlib.Core.Path.{_≡_, refl, ap, _∙_}
+use lib.ListN.{take}
+use Rattle.aes_sbox.specs.Field.{mul, inverse, affine, substitutionValue, sBox, subByte}
+use Rattle.aes_words.specs.Block.{xorBlock, xorWord}
+use Rattle.aes_keys.specs.KeyExpansion.{rotWord, subWord, keyExpansion, roundKeys}
+use Rattle.aes.specs.Cipher.{subBytes, shiftRows, mixColumns, round, cipher}
+use Rattle.cmac.specs.Cmac.{shiftLeft, doubled, subkey1, blockAt, lastBlock, chained, macWith, aesCmac}
+use Rattle.hop_mac.specs.Mac.{macInput, fullHopMac, hopMac}
+
+-- RFC 4493's key, which is FIPS 197's of appendix A.1; the round keys there; RFC 4493's K1 of it
+abbrev pub key : List ℕ
+key = 0x2b ∷ 0x7e ∷ 0x15 ∷ 0x16 ∷ 0x28 ∷ 0xae ∷ 0xd2 ∷ 0xa6 ∷ 0xab ∷ 0xf7 ∷ 0x15 ∷ 0x88 ∷ 0x09 ∷ 0xcf ∷ 0x4f ∷ 0x3c ∷ []
+
+abbrev schedule : List (List ℕ)
+schedule =
+    (0x2b ∷ 0x7e ∷ 0x15 ∷ 0x16 ∷ 0x28 ∷ 0xae ∷ 0xd2 ∷ 0xa6 ∷ 0xab ∷ 0xf7 ∷ 0x15 ∷ 0x88 ∷ 0x09 ∷ 0xcf ∷ 0x4f ∷ 0x3c ∷ [])
+    ∷ (0xa0 ∷ 0xfa ∷ 0xfe ∷ 0x17 ∷ 0x88 ∷ 0x54 ∷ 0x2c ∷ 0xb1 ∷ 0x23 ∷ 0xa3 ∷ 0x39 ∷ 0x39 ∷ 0x2a ∷ 0x6c ∷ 0x76 ∷ 0x05 ∷ [])
+    ∷ (0xf2 ∷ 0xc2 ∷ 0x95 ∷ 0xf2 ∷ 0x7a ∷ 0x96 ∷ 0xb9 ∷ 0x43 ∷ 0x59 ∷ 0x35 ∷ 0x80 ∷ 0x7a ∷ 0x73 ∷ 0x59 ∷ 0xf6 ∷ 0x7f ∷ [])
+    ∷ (0x3d ∷ 0x80 ∷ 0x47 ∷ 0x7d ∷ 0x47 ∷ 0x16 ∷ 0xfe ∷ 0x3e ∷ 0x1e ∷ 0x23 ∷ 0x7e ∷ 0x44 ∷ 0x6d ∷ 0x7a ∷ 0x88 ∷ 0x3b ∷ [])
+    ∷ (0xef ∷ 0x44 ∷ 0xa5 ∷ 0x41 ∷ 0xa8 ∷ 0x52 ∷ 0x5b ∷ 0x7f ∷ 0xb6 ∷ 0x71 ∷ 0x25 ∷ 0x3b ∷ 0xdb ∷ 0x0b ∷ 0xad ∷ 0x00 ∷ [])
+    ∷ (0xd4 ∷ 0xd1 ∷ 0xc6 ∷ 0xf8 ∷ 0x7c ∷ 0x83 ∷ 0x9d ∷ 0x87 ∷ 0xca ∷ 0xf2 ∷ 0xb8 ∷ 0xbc ∷ 0x11 ∷ 0xf9 ∷ 0x15 ∷ 0xbc ∷ [])
+    ∷ (0x6d ∷ 0x88 ∷ 0xa3 ∷ 0x7a ∷ 0x11 ∷ 0x0b ∷ 0x3e ∷ 0xfd ∷ 0xdb ∷ 0xf9 ∷ 0x86 ∷ 0x41 ∷ 0xca ∷ 0x00 ∷ 0x93 ∷ 0xfd ∷ [])
+    ∷ (0x4e ∷ 0x54 ∷ 0xf7 ∷ 0x0e ∷ 0x5f ∷ 0x5f ∷ 0xc9 ∷ 0xf3 ∷ 0x84 ∷ 0xa6 ∷ 0x4f ∷ 0xb2 ∷ 0x4e ∷ 0xa6 ∷ 0xdc ∷ 0x4f ∷ [])
+    ∷ (0xea ∷ 0xd2 ∷ 0x73 ∷ 0x21 ∷ 0xb5 ∷ 0x8d ∷ 0xba ∷ 0xd2 ∷ 0x31 ∷ 0x2b ∷ 0xf5 ∷ 0x60 ∷ 0x7f ∷ 0x8d ∷ 0x29 ∷ 0x2f ∷ [])
+    ∷ (0xac ∷ 0x77 ∷ 0x66 ∷ 0xf3 ∷ 0x19 ∷ 0xfa ∷ 0xdc ∷ 0x21 ∷ 0x28 ∷ 0xd1 ∷ 0x29 ∷ 0x41 ∷ 0x57 ∷ 0x5c ∷ 0x00 ∷ 0x6e ∷ [])
+    ∷ (0xd0 ∷ 0x14 ∷ 0xf9 ∷ 0xa8 ∷ 0xc9 ∷ 0xee ∷ 0x25 ∷ 0x89 ∷ 0xe1 ∷ 0x3f ∷ 0x0c ∷ 0xc8 ∷ 0xb6 ∷ 0x63 ∷ 0x0c ∷ 0xa6 ∷ [])
+    ∷ []
+
+abbrev k1 : List ℕ
+k1 = 0xfb ∷ 0xee ∷ 0xd6 ∷ 0x18 ∷ 0x35 ∷ 0x71 ∷ 0x33 ∷ 0x66 ∷ 0x7c ∷ 0x85 ∷ 0xe0 ∷ 0x8f ∷ 0x72 ∷ 0x36 ∷ 0xa8 ∷ 0xde ∷ []
+
+-- ---- what is computed: to unfold one of these is to unfold whatever its own line names
+
+keys : List (List ℕ)
+unfolding mul inverse affine substitutionValue sBox subByte xorWord rotWord subWord keyExpansion roundKeys
+keys = roundKeys key
+
+encrypted : List ℕ → List ℕ
+unfolding mul inverse affine substitutionValue sBox subByte xorBlock subBytes shiftRows mixColumns round cipher
+encrypted block = cipher schedule block
+
+subkey : List ℕ
+unfolding encrypted shiftLeft doubled subkey1
+subkey = subkey1 (cipher schedule)
+
+mac : List ℕ → List ℕ
+unfolding encrypted blockAt lastBlock chained macWith macInput
+mac m = macWith (cipher schedule) k1 m
+
+schedule-right : roundKeys key ≡ schedule
+unfolding keys
+schedule-right = refl
+
+k1-right : subkey1 (cipher schedule) ≡ k1
+unfolding subkey
+k1-right = refl
+
+from-schedule : (m : List ℕ) → aesCmac key m ≡ macWith (cipher schedule) k1 m
+unfolding aesCmac
+from-schedule m =
+    ap (λ (w : List (List ℕ)). macWith (cipher w) (subkey1 (cipher w)) m) schedule-right
+    ∙ ap (λ (k : List ℕ). macWith (cipher schedule) k m) k1-right
+
+-- SegID, timestamp, ExpTime, ConsIngress, ConsEgress
+hop-mac : (segId timestamp expTime consIngress consEgress : ℕ)
+    → hopMac segId timestamp expTime consIngress consEgress key ≡ take 6 (macWith (cipher schedule) k1 (macInput segId timestamp expTime consIngress consEgress))
+unfolding hopMac fullHopMac
+hop-mac segId timestamp expTime consIngress consEgress = ap (take 6) (from-schedule (macInput segId timestamp expTime consIngress consEgress))
+
+-- three hops in construction direction
+pub mac-down-0 : hopMac 0x1234 1000 0 0 1 key ≡ 0x4a ∷ 0x2b ∷ 0x72 ∷ 0x55 ∷ 0xb9 ∷ 0xe6 ∷ []
+unfolding mac
+mac-down-0 = hop-mac 0x1234 1000 0 0 1
+
+pub mac-down-1 : hopMac 0x581f 1000 0 3 1 key ≡ 0xe7 ∷ 0x64 ∷ 0xaa ∷ 0x6d ∷ 0x19 ∷ 0x95 ∷ []
+unfolding mac
+mac-down-1 = hop-mac 0x581f 1000 0 3 1
+
+pub mac-down-2 : hopMac 0xbf7b 1000 0 3 0 key ≡ 0x58 ∷ 0x01 ∷ 0x82 ∷ 0x2b ∷ 0x49 ∷ 0x2e ∷ []
+unfolding mac
+mac-down-2 = hop-mac 0xbf7b 1000 0 3 0
+
+-- the second hop against construction, and the same with the SegID of the other segment
+pub mac-up : hopMac 0x5678 1000 0 0 1 key ≡ 0xcd ∷ 0x58 ∷ 0xe7 ∷ 0x46 ∷ 0x99 ∷ 0x56 ∷ []
+unfolding mac
+mac-up = hop-mac 0x5678 1000 0 0 1
+
+pub mac-other : hopMac 0x9abc 1000 0 0 1 key ≡ 0x78 ∷ 0xbe ∷ 0x6a ∷ 0x2a ∷ 0xd6 ∷ 0x9c ∷ []
+unfolding mac
+mac-other = hop-mac 0x9abc 1000 0 0 1
+
+-- the hop behind it, in construction direction
+pub mac-next : hopMac 0x9abc 1000 0 0 2 key ≡ 0x2d ∷ 0xbd ∷ 0x56 ∷ 0x96 ∷ 0x1a ∷ 0x64 ∷ []
+unfolding mac
+mac-next = hop-mac 0x9abc 1000 0 0 2
+
+-- two hops in construction direction: the last, behind `mac-down-0`
+pub mac-last : hopMac 0x581f 1000 0 3 0 key ≡ 0xd1 ∷ 0x46 ∷ 0x0c ∷ 0xe3 ∷ 0xb1 ∷ 0x15 ∷ []
+unfolding mac
+mac-last = hop-mac 0x581f 1000 0 3 0
