@@ -13,7 +13,7 @@ use Rattle.octets.proofs.Bools.{each-of, each-of-3, each-way}
 use Rattle.interface_table.specs.Table.{tableSound}
 use Rattle.interface_table.proofs.Entries.{sound-by-entries}
 use Rattle.records.specs.Layout.{Layout}
-use Rattle.records.specs.Records.{every, recordCount, interfaceNumberOf, firstInterfaceOf, firstStation, chainWithin}
+use Rattle.records.specs.Records.{every, recordCount, interfaceNumberOf, firstInterfaceOf, firstStation}
 use Rattle.records.specs.Inner.{stationRecordsWithin, tableRecordsWithin}
 use Rattle.records.proofs.Every.{every-both, map-same}
 use Rattle.soundness.specs.Soundness.{stationSound}
@@ -30,15 +30,6 @@ table-size ids states e = leb-true _ _ (each-of (leb (length ids) 256) _ (sym (s
 module _ (layout : Layout) (itinerary : List ℕ) where
   abbrev records : ℕ
   records = recordCount layout itinerary
-
-  abbrev from : ℕ → ℕ → List ℕ
-  from limit index = chainWithin layout itinerary limit index
-
-  abbrev first : ℕ
-  first = firstStation layout itinerary
-
-  abbrev firstIn : ℕ → ℕ
-  firstIn station = firstInterfaceOf layout itinerary station
 
   -- ---- tables that are the same at each station come to the same
 
@@ -57,21 +48,21 @@ module _ (layout : Layout) (itinerary : List ℕ) where
   -- ---- with the station count wanted, and sound tables
 
   table-few : (tableLimit station : ℕ) → hasSoundTable layout itinerary (tableRecordsWithin layout itinerary tableLimit) station ≡ true
-      → length (from tableLimit (firstIn station)) ≤ 256
+      → length (tableRecordsWithin layout itinerary tableLimit station) ≤ 256
   unfolding stationWith
   table-few tableLimit station e =
-      let few = table-size (map (interfaceNumberOf layout itinerary) (from tableLimit (firstIn station))) _ e in
+      let few = table-size (map (interfaceNumberOf layout itinerary) (tableRecordsWithin layout itinerary tableLimit station)) _ e in
       rw length-map at few
 
   -- limits that reach as far as such stations and tables go
   record Reach (wanted stationLimit tableLimit : ℕ) : Type 0 where
-    stations : wanted < records → wanted < stationLimit
-    table : (entries : ℕ) → entries ≤ 256 → entries < records → entries < tableLimit
+    stationsIn : wanted < records → wanted < stationLimit
+    tableIn : (entries : ℕ) → entries ≤ 256 → entries < records → entries < tableLimit
 
   module _ (wanted stationLimit tableLimit stationLimit′ tableLimit′ : ℕ) (reach : Reach wanted stationLimit tableLimit)
       (reach′ : Reach wanted stationLimit′ tableLimit′) (e : fitsWithin layout itinerary stationLimit tableLimit wanted ≡ true) where
     abbrev reached : List ℕ
-    reached = from stationLimit first
+    reached = stationRecordsWithin layout itinerary stationLimit
 
     abbrev tables : ℕ → ℕ → List ℕ
     tables limit = tableRecordsWithin layout itinerary limit
@@ -86,14 +77,14 @@ module _ (layout : Layout) (itinerary : List ℕ) where
         let count = sym (count-by-records layout itinerary reached (tables tableLimit)) ∙ eqb-true _ _ (held .1) in
         (plan .0, count, sym (tables-by-records layout itinerary reached (tables tableLimit)) ∙ plan .1)
 
-    same-stations : from stationLimit′ first ≡ reached
+    same-stations : stationRecordsWithin layout itinerary stationLimit′ ≡ reached
     same-stations =
         let few = stations-fewer layout itinerary stationLimit (tables tableLimit) (parts .0) in
         let count = parts .1 in
         let below : wanted < records = omega arith in
-        let one = reach .stations below in
-        let other = reach′ .stations below in
-        same-chain layout itinerary stationLimit stationLimit′ first (omega arith) (omega arith)
+        let one = reach .stationsIn below in
+        let other = reach′ .stationsIn below in
+        same-chain layout itinerary stationLimit stationLimit′ (firstStation layout itinerary) (omega arith) (omega arith)
 
     abbrev known : ℕ → Bool
     known station =
@@ -104,7 +95,7 @@ module _ (layout : Layout) (itinerary : List ℕ) where
         let held = each-of (stationSound layout itinerary reached (tables tableLimit) station) _ q in
         let few = table-few tableLimit station (held .1) in
         let short = table-fewer layout itinerary reached tableLimit station (held .0) in
-        same-chain layout itinerary tableLimit tableLimit′ (firstIn station) (reach .table _ few short) (reach′ .table _ few short)
+        same-chain layout itinerary tableLimit tableLimit′ (firstInterfaceOf layout itinerary station) (reach .tableIn _ few short) (reach′ .tableIn _ few short)
 
     each-known : every known reached ≡ true
     each-known = every-both _ _ _ (each-sound layout itinerary stationLimit (tables tableLimit) (parts .0)) (parts .2)
@@ -123,10 +114,10 @@ module _ (layout : Layout) (itinerary : List ℕ) where
       (λ e. same-fit wanted records records (wanted + 1) 257 whole bounded e ∙ e)
     where
       bounded : Reach wanted (wanted + 1) 257
-      bounded = record { stations = λ below. omega arith; table = λ entries few below. omega arith }
+      bounded = record { stationsIn = λ below. omega arith; tableIn = λ entries few below. omega arith }
 
       whole : Reach wanted records records
-      whole = record { stations = λ below. below; table = λ entries few below. below }
+      whole = record { stationsIn = λ below. below; tableIn = λ entries few below. below }
 
   -- the same, as the code asks it
   pub fits-asked : (wanted : ℕ)

@@ -26,23 +26,23 @@ getD-map f (x ∷ xs) (suc place) none h = getD-map f xs place none (omega arith
 
 module _ (layout : Layout) (itinerary : List ℕ) where
   abbrev pub hasSoundTable : (ℕ → List ℕ) → ℕ → Bool
-  hasSoundTable table station =
-      tableSound (stationWith layout itinerary table station .ids) (stationWith layout itinerary table station .states)
+  hasSoundTable tableOf station =
+      tableSound (stationWith layout itinerary tableOf station .ids) (stationWith layout itinerary tableOf station .states)
 
-  module _ (stations : List ℕ) (table : ℕ → List ℕ) where
-    pub tables-by-records : tablesSound (stationsOf layout itinerary stations table) ≡ every (hasSoundTable table) stations
+  module _ (chained : List ℕ) (tableOf : ℕ → List ℕ) where
+    pub tables-by-records : tablesSound (stationsOf layout itinerary chained tableOf) ≡ every (hasSoundTable tableOf) chained
     unfolding tablesSound stationsOf
-    tables-by-records = every-map _ (stationWith layout itinerary table) stations
+    tables-by-records = every-map _ (stationWith layout itinerary tableOf) chained
 
-    pub count-by-records : length (stationsOf layout itinerary stations table) ≡ length stations
+    pub count-by-records : length (stationsOf layout itinerary chained tableOf) ≡ length chained
     unfolding stationsOf
-    count-by-records = length-map stations (stationWith layout itinerary table)
+    count-by-records = length-map chained (stationWith layout itinerary tableOf)
 
     -- a station is read from its record
-    pub station-from-record : (place : ℕ) (none : Station) → place < length stations
-        → getD (stationsOf layout itinerary stations table) place none ≡ stationWith layout itinerary table (getD stations place 0)
+    pub station-from-record : (place : ℕ) (none : Station) → place < length chained
+        → getD (stationsOf layout itinerary chained tableOf) place none ≡ stationWith layout itinerary tableOf (getD chained place 0)
     unfolding stationsOf
-    station-from-record place none h = getD-map (stationWith layout itinerary table) stations place none h
+    station-from-record place none h = getD-map (stationWith layout itinerary tableOf) chained place none h
 
   module _ (later tableLimit : ℕ) {first : ℕ} (e : first ≡ firstStation layout itinerary) where
     pub none-arrives : first ≡ 0 → true ≡ arrivalsFit (stationsWithin layout itinerary (later + 1) tableLimit)

@@ -80,23 +80,23 @@ module _ (layout : Layout) (itinerary : List ℕ) where
   -- ---- what is asked of a record of a table, with some of the stations
 
   abbrev asks : List ℕ → ℕ → Bool
-  asks stations index =
-      nextSound layout itinerary index && zerosSound layout itinerary (layout .interfaceZeros) index && isNone stations index
+  asks chained index =
+      nextSound layout itinerary index && zerosSound layout itinerary (layout .interfaceZeros) index && isNone chained index
 
   -- stations below its first record may be left out
-  module _ (stations : List ℕ) (left index : ℕ) (here : index ≡ 0 → ⊥) where
+  module _ (chained : List ℕ) (left index : ℕ) (here : index ≡ 0 → ⊥) where
     left-out : every (nextSound layout itinerary) (from left index) ≡ true
-        → every (asks stations) (from left index) ≡ every (asks (dropBelow index stations)) (from left index)
+        → every (asks chained) (from left index) ≡ every (asks (dropBelow index chained)) (from left index)
     left-out e =
-        every-same (λ x. leb index x) _ _ (from left index) (λ x above. rw (none-dropped stations index x (leb-true index x above)))
+        every-same (λ x. leb index x) _ _ (from left index) (λ x above. rw (none-dropped chained index x (leb-true index x above)))
         (lowest-first left index here e)
 
     nexts : (among : List ℕ) → every (asks among) (from left index) ≡ true → every (nextSound layout itinerary) (from left index) ≡ true
     nexts among e = every-implied _ _ (from left index) (λ x h. each-of-3 (nextSound layout itinerary x) _ _ h .0) e
 
-    leave-out : every (asks stations) (from left index) ≡ every (asks (dropBelow index stations)) (from left index)
+    leave-out : every (asks chained) (from left index) ≡ every (asks (dropBelow index chained)) (from left index)
     leave-out =
-        each-way _ _ (λ e. sym (left-out (nexts stations e)) ∙ e) (λ e. left-out (nexts (dropBelow index stations) e) ∙ e)
+        each-way _ _ (λ e. sym (left-out (nexts chained e)) ∙ e) (λ e. left-out (nexts (dropBelow index chained) e) ∙ e)
 
   -- the first station that is not below it is not it: no station is
   none-here : (left station index : ℕ) → (0 < left → (station ≡ 0 → ⊥) → index ≤ station)
@@ -117,8 +117,8 @@ module _ (layout : Layout) (itinerary : List ℕ) where
 
 -- ---- the loop along both: `place` in the stations' chain, `index` in the table's
 
-pub record Merged (layout : Layout) (itinerary stations : List ℕ) (tableLimit first stationsLeft station left index : ℕ) : Type 0 where
-  pub rest : every (interfaceSound layout itinerary stations) (chainWithin layout itinerary tableLimit first)
+pub record Merged (layout : Layout) (itinerary chained : List ℕ) (tableLimit first stationsLeft station left index : ℕ) : Type 0 where
+  pub rest : every (interfaceSound layout itinerary chained) (chainWithin layout itinerary tableLimit first)
       ≡ every (asks layout itinerary (chainWithin layout itinerary stationsLeft station)) (chainWithin layout itinerary left index)
   pub rises : every (nextSound layout itinerary) (chainWithin layout itinerary stationsLeft station) ≡ true
 
@@ -129,29 +129,29 @@ pub merged-start : (layout : Layout) (itinerary : List ℕ) (stationLimit tableL
 unfolding interfaceSound isNoStation
 merged-start layout itinerary stationLimit tableLimit rises e d = record { rest = rw (e, d); rises = rw e rises }
 
-module _ {layout : Layout} {itinerary stations : List ℕ} {tableLimit first stationsLeft station left index : ℕ}
-    (merged : Merged layout itinerary stations tableLimit first stationsLeft station left index) where
-  pub merged-end : index ≡ 0 → true ≡ every (interfaceSound layout itinerary stations) (chainWithin layout itinerary tableLimit first)
+module _ {layout : Layout} {itinerary chained : List ℕ} {tableLimit first stationsLeft station left index : ℕ}
+    (merged : Merged layout itinerary chained tableLimit first stationsLeft station left index) where
+  pub merged-end : index ≡ 0 → true ≡ every (interfaceSound layout itinerary chained) (chainWithin layout itinerary tableLimit first)
   unfolding every
   merged-end e = sym (merged .rest ∙ rw (chain-end layout itinerary left index e))
 
-  pub merged-out : left ≡ 0 → true ≡ every (interfaceSound layout itinerary stations) (chainWithin layout itinerary tableLimit first)
+  pub merged-out : left ≡ 0 → true ≡ every (interfaceSound layout itinerary chained) (chainWithin layout itinerary tableLimit first)
   unfolding every
   merged-out e = sym (merged .rest ∙ rw (chain-out layout itinerary left index e))
 
   module _ (more : 0 < left) (here : index ≡ 0 → ⊥) where
     merged-no : asks layout itinerary (chainWithin layout itinerary stationsLeft station) index ≡ false
-        → false ≡ every (interfaceSound layout itinerary stations) (chainWithin layout itinerary tableLimit first)
+        → false ≡ every (interfaceSound layout itinerary chained) (chainWithin layout itinerary tableLimit first)
     unfolding every
     merged-no e = sym (merged .rest ∙ rw (chain-on layout itinerary left index _ more here refl, e))
 
     pub merged-unsound : (nextSound layout itinerary index && zerosSound layout itinerary (layout .interfaceZeros) index) ≡ false
-        → false ≡ every (interfaceSound layout itinerary stations) (chainWithin layout itinerary tableLimit first)
+        → false ≡ every (interfaceSound layout itinerary chained) (chainWithin layout itinerary tableLimit first)
     merged-unsound e = merged-no (rw e)
 
     -- the station that the index was skipped to is it
     pub merged-found : (ltb 0 stationsLeft && eqb station index) ≡ true
-        → false ≡ every (interfaceSound layout itinerary stations) (chainWithin layout itinerary tableLimit first)
+        → false ≡ every (interfaceSound layout itinerary chained) (chainWithin layout itinerary tableLimit first)
     unfolding every
     merged-found e =
         let held = each-of (ltb 0 stationsLeft) (eqb station index) e in
@@ -162,7 +162,7 @@ module _ {layout : Layout} {itinerary stations : List ℕ} {tableLimit first sta
     pub merged-on : {next : ℕ} → (0 < stationsLeft → (station ≡ 0 → ⊥) → index ≤ station)
         → (nextSound layout itinerary index && zerosSound layout itinerary (layout .interfaceZeros) index) ≡ true
         → (ltb 0 stationsLeft && eqb station index) ≡ false → next ≡ nextOf layout itinerary index
-        → Merged layout itinerary stations tableLimit first stationsLeft station (left - 1) next
+        → Merged layout itinerary chained tableLimit first stationsLeft station (left - 1) next
     unfolding every
     merged-on {next} reached e n q =
         let none = none-here layout itinerary stationsLeft station index reached (merged .rises) here n in
@@ -170,7 +170,7 @@ module _ {layout : Layout} {itinerary stations : List ℕ} {tableLimit first sta
 
   pub merged-skip : {stationsLeft′ station′ : ℕ} → (index ≡ 0 → ⊥)
       → chainWithin layout itinerary stationsLeft′ station′ ≡ dropBelow index (chainWithin layout itinerary stationsLeft station)
-      → Merged layout itinerary stations tableLimit first stationsLeft′ station′ left index
+      → Merged layout itinerary chained tableLimit first stationsLeft′ station′ left index
   merged-skip here e =
       record {
         rest = merged .rest ∙ rw e (leave-out layout itinerary (chainWithin layout itinerary stationsLeft station) left index here);
@@ -206,12 +206,12 @@ module _ {layout : Layout} {itinerary : List ℕ} {bound limit first left statio
 
 -- ---- stations whose nexts are not sound are not sound
 
-pub nexts-unsound : (layout : Layout) (itinerary stations : List ℕ) (table : ℕ → List ℕ)
-    → every (nextSound layout itinerary) stations ≡ false → false ≡ every (stationSound layout itinerary stations table) stations
-nexts-unsound layout itinerary stations table e = go (every (stationSound layout itinerary stations table) stations) refl
+pub nexts-unsound : (layout : Layout) (itinerary chained : List ℕ) (tableOf : ℕ → List ℕ)
+    → every (nextSound layout itinerary) chained ≡ false → false ≡ every (stationSound layout itinerary chained tableOf) chained
+nexts-unsound layout itinerary chained tableOf e = go (every (stationSound layout itinerary chained tableOf) chained) refl
   where
-    go : (b : Bool) → every (stationSound layout itinerary stations table) stations ≡ b → false ≡ b
+    go : (b : Bool) → every (stationSound layout itinerary chained tableOf) chained ≡ b → false ≡ b
     go false d = refl
     go true d =
-        sym e ∙ every-implied (stationSound layout itinerary stations table) (nextSound layout itinerary) stations
-        (station-next layout itinerary stations table) d
+        sym e ∙ every-implied (stationSound layout itinerary chained tableOf) (nextSound layout itinerary) chained
+        (station-next layout itinerary chained tableOf) d

@@ -14,12 +14,11 @@ abbrev μ-loop : tie.MeasureT-loop
 
 returns-2 : tie.Need-returns-2 Inv-loop μ-loop
 returns-2 c =
-    (skipped-here (c .before .before .before .loop .inv) (search needs) (c .before .if1 .left) (c .if2 .taken), λ more here. c .if2 .taken)
+    (skipped-here (c .before .before .before .loop .inv) (search needs) (c .before .if1 .left) (omega arith), λ more here. omega arith)
 
 loop-again : tie.Need-loop-again Inv-loop μ-loop
 loop-again c =
-    skipped-on (c .before .before .before .before .loop .inv) (search needs) (c .before .before .if1 .left) (c .before .if2 .left)
-    (c .next .ensures)
+    skipped-on (c .before .before .before .before .loop .inv) (search needs) (c .before .before .if1 .left) (omega arith) (c .next .ensures)
 
 pub skip-below-spec : {M : Type 1} → statement M
 skip-below-spec =
