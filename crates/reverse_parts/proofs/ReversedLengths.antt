@@ -13,7 +13,7 @@ use Rattle.fields.specs.Layout.{infoCount, hopCount}
 use Rattle.standard_path.specs.Meta.{seg0Len, seg1Len, seg2Len}
 use Rattle.standard_path.specs.Header.{infos, hops}
 use Rattle.segments.specs.Segments.{segments, segmentCount}
-use Rattle.reverse.specs.Reverse.{setLengths, swapLengths}
+use Rattle.reverse_parts.specs.Parts.{setLengths, swapLengths}
 
 pub record Lengths (path : List ℕ) (seg0 seg1 seg2 : ℕ) : Type 0 where
   pub first : seg0Len path ≡ seg0

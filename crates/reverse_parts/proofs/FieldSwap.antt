@@ -7,9 +7,9 @@ use native.Mathlib.Nat.{mul-zero, mul-one, mul-suc, add-zero}
 use native.Mathlib.Omega.{arith}
 use lib.ListN.{length, getD, set, take, drop, length-append, length-drop, take-append-drop}
 use lib.Seq.{take-at, drop-at, getD-at, set-at, take-all, drop-drop, length-take-le}
-use Rattle.reverse.specs.Reverse.{lastFirst, reverseFields}
-use Rattle.reverse.specs.Inner.{swapFields}
-use Rattle.reverse.proofs.FieldOrder.{last-first-first, last-first-last, last-first-front}
+use Rattle.reverse_parts.specs.Parts.{lastFirst, reverseFields}
+use Rattle.reverse_parts.specs.Inner.{swapFields}
+use Rattle.reverse_parts.proofs.FieldOrder.{last-first-first, last-first-last, last-first-front}
 
 -- ---- two fields exchanged
 

@@ -1,7 +1,7 @@
 use borrow.Author.Needs.{needs}
-use Rattle.reverse.specs.Reverse.{setLengths}
-use Rattle.reverse.proofs.set_lengths.Statement.{statement}
-use Rattle.reverse.proofs.set_lengths.Tie as tie
+use Rattle.reverse_parts.specs.Parts.{setLengths}
+use Rattle.reverse_parts.proofs.set_lengths.Statement.{statement}
+use Rattle.reverse_parts.proofs.set_lengths.Tie as tie
 
 returns : tie.Need-returns
 unfolding setLengths

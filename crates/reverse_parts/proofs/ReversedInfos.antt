@@ -14,7 +14,7 @@ use borrow.Author.Tests.{eqb-true, eqb-false, eq-eqb, ne-eqb}
 use Rattle.fields.specs.Layout.{infoOffset}
 use Rattle.fields.specs.Fields.{consDir, peering, segId, timestamp}
 use Rattle.standard_path.proofs.Kept.{part-kept}
-use Rattle.reverse.specs.Reverse.{toggled, toggleConsDir, toggleConsDirs}
+use Rattle.reverse_parts.specs.Parts.{toggled, toggleConsDir, toggleConsDirs}
 
 -- an info field with C toggled
 abbrev pub toggleInfo : List ℕ → List ℕ

@@ -7,7 +7,10 @@ use native.Mathlib.Nat.{mul-zero, mul-suc, mul-le-mul-left, not-suc-le-zero, le-
 use native.Mathlib.Omega.{arith}
 use lib.ListN.{length, take, drop, length-append, length-drop}
 use lib.Seq.{take-at, drop-at, take-append-le, drop-append-le, drop-drop, length-take-le, take-take}
-use Rattle.reverse.specs.Reverse.{lastFirst, reverseFields}
+use borrow.Author.Tests.{le-leb, lt-leb}
+use Rattle.fields.specs.Layout.{hopOffset}
+use Rattle.reverse_parts.specs.Parts.{lastFirst, reverseFields, reverseParts}
+use Rattle.reverse_parts.specs.Inner.{reversePartsThere}
 
 module _ (size : ℕ) where
   pub last-first-first : (n : ℕ) (l : List ℕ) → lastFirst size (suc n) l ≡ lastFirst size n (drop size l) ++ take size l
@@ -105,3 +108,13 @@ module _ (size : ℕ) where
         rw (← drop-drop (size * i) at, drop-at (take at path) (order ++ rest) at front) (drop-append-le (size * i) order rest b) in
         rw (skip, take-append-le size (drop (size * i) order) rest d, ← drop-drop (size * (n - 1 - i)) at path)
         (last-first-field n i (drop at path) h inside)
+
+-- ---- all fields, where they are there
+
+pub parts-there : (n m : ℕ) (path : List ℕ) → hopOffset n m ≤ length path → reversePartsThere n m path ≡ reverseParts n m path
+unfolding reversePartsThere
+parts-there n m path h = simp (le-leb _ _ h)
+
+pub parts-short : (n m : ℕ) (path : List ℕ) → length path < hopOffset n m → reversePartsThere n m path ≡ path
+unfolding reversePartsThere
+parts-short n m path h = simp (lt-leb _ _ h)

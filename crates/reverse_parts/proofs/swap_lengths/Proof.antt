@@ -2,9 +2,9 @@ use borrow.Author.Needs.{needs}
 use mathlib.Core.Path.{sym, _∙_}
 use native.Mathlib.Omega.{arith}
 use borrow.Author.Tests.{eq-eqb, ne-eqb}
-use Rattle.reverse.specs.Reverse.{swapLengths}
-use Rattle.reverse.proofs.swap_lengths.Statement.{statement}
-use Rattle.reverse.proofs.swap_lengths.Tie as tie
+use Rattle.reverse_parts.specs.Parts.{swapLengths}
+use Rattle.reverse_parts.proofs.swap_lengths.Statement.{statement}
+use Rattle.reverse_parts.proofs.swap_lengths.Tie as tie
 
 returns : tie.Need-returns
 unfolding swapLengths

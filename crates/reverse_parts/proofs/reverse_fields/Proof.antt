@@ -3,10 +3,10 @@ use Prim.Native.Nat.{_+_, _-_, _*_, _≤_}
 use mathlib.Core.Path.{_≡_, refl, sym, ap, _∙_}
 use native.Mathlib.Omega.{arith}
 use lib.ListN.{length}
-use Rattle.reverse.specs.Reverse.{reverseFields}
-use Rattle.reverse.proofs.FieldSwap.{two-fields, reverse-few, reverse-more}
-use Rattle.reverse.proofs.reverse_fields.Statement.{statement}
-use Rattle.reverse.proofs.reverse_fields.Tie as tie
+use Rattle.reverse_parts.specs.Parts.{reverseFields}
+use Rattle.reverse_parts.proofs.FieldSwap.{two-fields, reverse-few, reverse-more}
+use Rattle.reverse_parts.proofs.reverse_fields.Statement.{statement}
+use Rattle.reverse_parts.proofs.reverse_fields.Tie as tie
 
 abbrev Inv-loop : tie.InvT-loop
 Inv-loop path₀ at size count low₀ high₀ left₀ path low high left =

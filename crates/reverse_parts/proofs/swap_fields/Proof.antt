@@ -4,10 +4,10 @@ use mathlib.Core.Path.{_≡_, refl, _∙_}
 use native.Mathlib.Omega.{arith}
 use native.Mathlib.Nat.{add-zero, sub-zero}
 use lib.ListN.{length, length-set}
-use Rattle.reverse.specs.Inner.{swapFields}
-use Rattle.reverse.proofs.FieldSwap.{swap-more}
-use Rattle.reverse.proofs.swap_fields.Statement.{statement}
-use Rattle.reverse.proofs.swap_fields.Tie as tie
+use Rattle.reverse_parts.specs.Inner.{swapFields}
+use Rattle.reverse_parts.proofs.FieldSwap.{swap-more}
+use Rattle.reverse_parts.proofs.swap_fields.Statement.{statement}
+use Rattle.reverse_parts.proofs.swap_fields.Tie as tie
 
 abbrev Inv-loop : tie.InvT-loop
 Inv-loop path₀ low high size i₀ path i =

@@ -5,9 +5,9 @@ use native.Mathlib.Omega.{arith}
 use native.Mathlib.Numerals.{add-one}
 use lib.ListN.{length}
 use denote.Ref.{now}
-use Rattle.reverse.specs.Reverse.{toggleConsDir, toggleConsDirs}
-use Rattle.reverse.proofs.toggle_cons_dirs.Statement.{statement}
-use Rattle.reverse.proofs.toggle_cons_dirs.Tie as tie
+use Rattle.reverse_parts.specs.Parts.{toggleConsDir, toggleConsDirs}
+use Rattle.reverse_parts.proofs.toggle_cons_dirs.Statement.{statement}
+use Rattle.reverse_parts.proofs.toggle_cons_dirs.Tie as tie
 
 abbrev Inv-loop : tie.InvT-loop
 Inv-loop path₀ infos index₀ path index = (index ≤ infos) × ((length path ≡ length path₀) × (path ≡ toggleConsDirs index path₀))
