@@ -149,6 +149,6 @@ pub(crate) fn reverse(label: &[u8], path: &mut [u8]) {
 
 pub(crate) fn expiration(label: &[u8], path: &[u8]) {
     put_label(b"expiration", label);
-    print::put_expiration(segments::expiration(path));
+    print::put_expiration(expiration::expiration(path));
     print::put_left(path);
 }

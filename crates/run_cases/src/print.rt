@@ -7,9 +7,9 @@ use answers::StepAnswer;
 use answers::number;
 use answers::scmp;
 use answers::scmp::ScmpError;
+use expiration::PathExpiration;
 use libc::STDOUT_FILENO;
 use reverse::Reversal;
-use segments::PathExpiration;
 
 pub(crate) fn put(text: &[u8]) {
     io::write_all(STDOUT_FILENO, text);
@@ -138,7 +138,7 @@ pub(crate) fn put_reversal(answer: Reversal) {
 pub(crate) fn put_expiration(answer: PathExpiration) {
     let PathExpiration::At(time) = answer else {
         put(b"refused");
-        put_number(segments::expiration_number(answer) as u64);
+        put_number(expiration::expiration_number(answer) as u64);
         return;
     };
     put(b"At");

@@ -56,37 +56,38 @@ use denote.Triple.Table.{entered, cited}
 use denote.Triple.Walked.{says, Stays, stay-none-slice, walkOf, goes-none-slice, Walks, ends-at, walked, walk-meets}
 use denote.Exit.{yes}
 use denote.Triple.Clauses.{ensured, lasts}
-use Rattle.segments.specs.Segments as spec
-use Rattle.segments.specs.Segments.{segments, isEnd, started, stepOf, advanced, segmentExpiry}
-use Rattle.segments.specs.Inner.{stepExpiry}
+use Rattle.expiration.specs.Expiration as spec
+use Rattle.segments.specs.Segments.{segments, isEnd, started, stepOf, advanced}
+use Rattle.expiration.specs.Expiration.{segmentExpiry}
+use Rattle.expiration.specs.Inner.{stepExpiry}
 use Rattle.segments.specs.declared.SegmentIterator.{SegmentIterator}
 use Rattle.segments.specs.declared.SegmentStep.{SegmentStep}
-use Rattle.segments.proofs.Expiry.{Ahead, ahead-all, ahead-none, further, on-from}
+use Rattle.expiration.proofs.Expiry.{Ahead, ahead-all, ahead-none, further, on-from}
 use Rattle.segments.proofs.Held.{iterVal, IterOwn}
 use Rattle.segments.proofs.SegmentIterator as T
 use Rattle.segments.proofs.SegmentIterator.Laws as T′
 use Rattle.segments.proofs.SegmentStep as S
 use Rattle.segments.proofs.SegmentStep.Laws as S′
 use Rattle.segments.proofs.SegmentIterator.new as new
 use Rattle.segments.proofs.SegmentIterator.new.Symbol as new-def
 use Rattle.segments.proofs.SegmentIterator.new.Symbol.{name as #new}
 use Rattle.segments.proofs.SegmentIterator.new.Met as new-thm
 use Rattle.segments.proofs.SegmentIterator.next as next
 use Rattle.segments.proofs.SegmentIterator.next.Symbol as next-def
 use Rattle.segments.proofs.SegmentIterator.next.Symbol.{name as #next}
 use Rattle.segments.proofs.SegmentIterator.next.Met as next-thm
 use Rattle.segments.proofs.is_end as end
 use Rattle.segments.proofs.is_end.Symbol as end-def
 use Rattle.segments.proofs.is_end.Symbol.{name as #end}
 use Rattle.segments.proofs.is_end.Met as end-thm
-use Rattle.segments.proofs.earlier as earlier
-use Rattle.segments.proofs.earlier.Symbol as earlier-def
-use Rattle.segments.proofs.earlier.Symbol.{name as #earlier}
-use Rattle.segments.proofs.earlier.Met as earlier-thm
-use Rattle.segments.proofs.least_expiry.Key.{name as #this}
-use Rattle.segments.proofs.least_expiry as this
-use Rattle.segments.proofs.least_expiry.Statement as stated
-use Rattle.segments.proofs.least_expiry.Code as code
+use Rattle.expiration.proofs.earlier as earlier
+use Rattle.expiration.proofs.earlier.Symbol as earlier-def
+use Rattle.expiration.proofs.earlier.Symbol.{name as #earlier}
+use Rattle.expiration.proofs.earlier.Met as earlier-thm
+use Rattle.expiration.proofs.least_expiry.Key.{name as #this}
+use Rattle.expiration.proofs.least_expiry as this
+use Rattle.expiration.proofs.least_expiry.Statement as stated
+use Rattle.expiration.proofs.least_expiry.Code as code
 
 abbrev stayed : Stays (this.ended .signature .params) (this.ended .kept)
 stayed = (stay-none-slice (0 ∷ []) tt (plain (λ _. u8)) yes, tt)
@@ -416,5 +417,5 @@ least-expiry-spec 𝓤 H 𝓜 𝓖 𝓡 =
     (cited 𝓤 H (Next 𝓤 H (𝓖 .A) (𝓜 .mem) (𝓡 .run)) 𝓜 𝓡 code.env #next next-def.routine code.calls-segments·SegmentIterator·next
     (next-thm.met 𝓤 H 𝓜 𝓖 𝓡))
     (cited 𝓤 H (IsEnd 𝓤 H (𝓖 .A) (𝓜 .mem) (𝓡 .run)) 𝓜 𝓡 code.env #end end-def.routine code.calls-segments·is-end (end-thm.met 𝓤 H 𝓜 𝓖 𝓡))
-    (cited 𝓤 H (Earlier 𝓤 H (𝓖 .A) (𝓜 .mem) (𝓡 .run)) 𝓜 𝓡 code.env #earlier earlier-def.routine code.calls-segments·earlier
+    (cited 𝓤 H (Earlier 𝓤 H (𝓖 .A) (𝓜 .mem) (𝓡 .run)) 𝓜 𝓡 code.env #earlier earlier-def.routine code.calls-expiration·earlier
     (earlier-thm.met 𝓤 H 𝓜 𝓖 𝓡)))

@@ -1,10 +1,10 @@
 use borrow.Author.Needs.{needs}
 use mathlib.Core.Path.{sym, ap, _∙_}
 use denote.Ref.{now}
-use Rattle.segments.specs.declared.PathExpiration.the-variants.{At}
-use Rattle.segments.proofs.Expiry.{expiration-asked}
-use Rattle.segments.proofs.expiration.Statement.{statement}
-use Rattle.segments.proofs.expiration.Tie as tie
+use Rattle.expiration.specs.declared.PathExpiration.the-variants.{At}
+use Rattle.expiration.proofs.Expiry.{expiration-asked}
+use Rattle.expiration.proofs.expiration.Statement.{statement}
+use Rattle.expiration.proofs.expiration.Tie as tie
 
 returns : tie.Need-returns
 returns c =

@@ -3,9 +3,9 @@ use mathlib.Core.Path.{_≡_, sym, ap, _∙_}
 use Prim.Native.Nat.{min}
 use native.Mathlib.Omega.{arith}
 use denote.Ref.{now}
-use Rattle.segments.specs.Inner.{stepExpiry}
-use Rattle.segments.proofs.earlier.Statement.{statement}
-use Rattle.segments.proofs.earlier.Tie as tie
+use Rattle.expiration.specs.Inner.{stepExpiry}
+use Rattle.expiration.proofs.earlier.Statement.{statement}
+use Rattle.expiration.proofs.earlier.Tie as tie
 
 returns : tie.Need-returns
 returns c =

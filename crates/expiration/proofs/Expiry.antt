@@ -10,18 +10,19 @@ use lib.Seq.{getD-take, getD-drop}
 use denote.Ref.{RefT, now}
 use Rattle.octets.specs.Bytes.{tabulate}
 use Rattle.fields.specs.Fields.{timestamp, expTime, expiry}
-use Rattle.standard_path.specs.Header.{infoField, headerCheck}
-use Rattle.segments.specs.Segments.{hopFields, hopOf, PathSegment, segments, isEnd, started, stepOf, advanced, least, hopExpiry, segmentExpiry, pathExpiry, expiration}
-use Rattle.segments.specs.Inner.{stepExpiry}
+use Rattle.fields.specs.Layout.{hopOffset}
+use Rattle.standard_path.specs.Header.{infos, infoField, hopField, headerCheck}
+use Rattle.segments.specs.Segments.{hopFields, PathSegment, segments, isEnd, started, stepOf, advanced}
+use Rattle.expiration.specs.Expiration.{least, hopExpiry, segmentExpiry, pathExpiry, expiration}
+use Rattle.expiration.specs.Inner.{stepExpiry}
 use Rattle.segments.specs.declared.SegmentIterator.{SegmentIterator}
 use Rattle.segments.specs.declared.SegmentStep.{SegmentStep}
-use Rattle.segments.proofs.Range.{range-hop}
 use Rattle.segments.proofs.Walk.{Walk, ends, goes, walk-segments}
 use Rattle.standard_path.proofs.HeaderAsked.{header-asked}
 use Rattle.standard_path.specs.declared.view.HeaderCheck.{HeaderCheck}
 use Rattle.standard_path.specs.declared.view.HeaderCheck.the-variants.{Complete, Failed}
-use Rattle.segments.specs.declared.PathExpiration.{PathExpiration}
-use Rattle.segments.specs.declared.PathExpiration.the-variants.{At, Refused}
+use Rattle.expiration.specs.declared.PathExpiration.{PathExpiration}
+use Rattle.expiration.specs.declared.PathExpiration.the-variants.{At, Refused}
 
 pub least-capped : (times : List ℕ) → least times ≤ 4294967295
 least-capped [] = omega arith
@@ -66,16 +67,25 @@ pub expiry-least : (start a b : ℕ) → expiry start (min a b) ≡ min (expiry 
 unfolding expiry
 expiry-least start a b = omega arith
 
+-- a hop's ExpTime, out of the part that `hopFields` cuts
+part-exp-time : (path : List ℕ) (first count i : ℕ) → i < count
+    → getD (hopFields path first count) (12 * i + 1) 0 ≡ expTime (hopField path (first + i))
+unfolding hopFields hopField expTime
+part-exp-time path first count i h =
+    let part = hopOffset (infos path) first in
+    let hop = hopOffset (infos path) (first + i) in
+    let e : part + (12 * i + 1) ≡ hop + 1 = omega arith in
+    getD-take (12 * count) (drop part path) (12 * i + 1) 0 (omega arith) ∙ getD-drop part path (12 * i + 1) 0
+    ∙ ap (λ (k : ℕ). getD path k 0) e ∙ sym (getD-take 12 (drop hop path) 1 0 (omega arith) ∙ getD-drop hop path 1 0)
+
 -- a hop's expiry, from the info field's timestamp and a byte of the segment's hop fields
 pub hop-time : (path : List ℕ) (s first count i : ℕ) {start units : ℕ} {info hops : List ℕ} → i < count → info ≡ infoField path s
     → start ≡ timestamp info → hops ≡ hopFields path first count → units ≡ getD hops (12 * i + 1) 0
     → expiry start units ≡ hopExpiry path s (first + i)
-unfolding hopExpiry hopOf expTime
-hop-time path s first count i {start} {units} {info} {hops} within info-is start-is hops-are units-are =
-    let byte : units ≡ expTime (hopOf hops i) =
-    units-are ∙ sym (getD-take 12 (drop (12 * i) hops) 1 0 (omega arith) ∙ getD-drop (12 * i) hops 1 0) in
+unfolding hopExpiry
+hop-time path s first count i within info-is start-is hops-are units-are =
     ap₂ expiry (start-is ∙ ap timestamp info-is)
-    (byte ∙ ap (λ (l : List ℕ). expTime (hopOf l i)) hops-are ∙ ap expTime (range-hop path first count i within))
+    (units-are ∙ ap (λ (l : List ℕ). getD l (12 * i + 1) 0) hops-are ∙ part-exp-time path first count i within)
 
 -- ---- a walk by an iterator, with the least expiry of the segments passed
 

@@ -1,8 +1,8 @@
 use borrow.Author.Needs.{needs}
 use mathlib.Core.Path.{sym, _∙_}
-use Rattle.segments.specs.Segments.{pathExpiry}
-use Rattle.segments.proofs.path_expiry.Statement.{statement}
-use Rattle.segments.proofs.path_expiry.Tie as tie
+use Rattle.expiration.specs.Expiration.{pathExpiry}
+use Rattle.expiration.proofs.path_expiry.Statement.{statement}
+use Rattle.expiration.proofs.path_expiry.Tie as tie
 
 returns : tie.Need-returns
 unfolding pathExpiry

@@ -2,9 +2,9 @@
 -- Assumes nothing.
 use Prim.Native.Nat.{ℕ}
 use mathlib.Core.List.{List}
-use Rattle.segments.specs.Segments.{segmentExpiry}
+use Rattle.expiration.specs.Expiration.{segmentExpiry}
 use Rattle.segments.specs.declared.SegmentStep.{SegmentStep}
 use Rattle.segments.specs.declared.SegmentStep.the-variants.{Segment, End}
 
 -- the expiry of the segment that a step gave, the cap for an end
 abbrev pub stepExpiry : List ℕ → SegmentStep → ℕ

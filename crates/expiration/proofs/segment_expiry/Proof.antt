@@ -5,10 +5,10 @@ use native.Mathlib.Omega.{arith}
 use denote.Ref.{now}
 use Rattle.octets.specs.Bytes.{tabulate}
 use Rattle.fields.specs.Fields.{expTime, expiry}
-use Rattle.segments.specs.Segments.{hopExpiry, segmentExpiry}
-use Rattle.segments.proofs.Expiry.{Left, left-more, left-none, times-all, times-more, times-none, hop-time, expiry-least}
-use Rattle.segments.proofs.segment_expiry.Statement.{statement}
-use Rattle.segments.proofs.segment_expiry.Tie as tie
+use Rattle.expiration.specs.Expiration.{hopExpiry, segmentExpiry}
+use Rattle.expiration.proofs.Expiry.{Left, left-more, left-none, times-all, times-more, times-none, hop-time, expiry-least}
+use Rattle.expiration.proofs.segment_expiry.Statement.{statement}
+use Rattle.expiration.proofs.segment_expiry.Tie as tie
 
 abbrev Inv-loop : tie.InvT-loop
 Inv-loop path info-idx first-hop hop-count start hops units₀ index₀ units index =
