@@ -30,7 +30,7 @@ static const char *const names[CALLS] = {
     "scion_calculate_segment_index",
     "scion_aes_cmac",
     "scion_calculate_hop_mac",
-    "scion_step_version_1",
+    "scion_step_version_2",
 };
 
 static int wrong;
@@ -109,7 +109,7 @@ static void make_call(void) {
     case SEGMENT: NOTED(reply = scion_calculate_segment_index(path, path_length, hop_idx)); break;
     case CMAC: NOTED(scion_aes_cmac(key, message, message_length, mac)); break;
     case HOP_MAC: NOTED(scion_calculate_hop_mac(0x1234, 1000, 0, 3, 1, key, mac)); break;
-    case VERSION: NOTED(version = scion_step_version_1()); break;
+    case VERSION: NOTED(version = scion_step_version_2()); break;
     }
 }
 
@@ -298,17 +298,20 @@ static void sizes(void) {
     EXPECT(STEP, SCION_META_TOO_SHORT, NONE);
     EXPECT(REVERSE, SCION_META_TOO_SHORT, NONE);
     EXPECT(EXPIRATION, SCION_META_TOO_SHORT, NONE);
+    EXPECT(SEGMENT, SCION_META_TOO_SHORT, NONE);
     EXPECT(JOURNEY, SCION_META_TOO_SHORT, NONE);
     stand(3, 0, 1);
     path_length--;
     EXPECT(STEP, SCION_DATA_TOO_SHORT, NONE);
     EXPECT(REVERSE, SCION_DATA_TOO_SHORT, NONE);
     EXPECT(EXPIRATION, SCION_DATA_TOO_SHORT, NONE);
+    EXPECT(SEGMENT, SCION_DATA_TOO_SHORT, NONE);
     EXPECT(JOURNEY, SCION_DATA_TOO_SHORT, NONE);
     put_header(22, 21, SCION_MAX_HOPS + 1 - 22 - 21);
     EXPECT(STEP, SCION_TOO_MANY_HOPS, NONE);
     EXPECT(REVERSE, SCION_TOO_MANY_HOPS, NONE);
     EXPECT(EXPIRATION, SCION_TOO_MANY_HOPS, NONE);
+    EXPECT(SEGMENT, SCION_TOO_MANY_HOPS, NONE);
     EXPECT(JOURNEY, SCION_TOO_MANY_HOPS, NONE);
     put_header(22, 21, SCION_MAX_HOPS - 22 - 21);
     CHECK(infos == SCION_MAX_INFOS && path_length == SCION_MAX_PATH_BYTES);

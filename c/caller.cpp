@@ -72,7 +72,7 @@ static void ask(const char *what, const Bytes &path, const Bytes &plan, unsigned
 }
 
 int main() {
-    if (scion_step_version_1() != SCION_STEP_VERSION) return 1;
+    if (scion_step_version_2() != SCION_STEP_VERSION) return 1;
     ask("in time", make_path(), make_plan(), 1337);
     ask("a second late", make_path(), make_plan(), 1338);
     ask("no plan", make_path(), Bytes(), 1337);

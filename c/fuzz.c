@@ -349,7 +349,7 @@ static const Call calls[CALLS] = {
     {"scion_check_journey_in_edition", {2, 3, 4, 23, 24, 25, 120, 121}, false},
     {"scion_try_reverse", {2, 3, 4, 20, 21, 22, 110}, false},
     {"scion_expiration", {2, 3, 4, 111}, false},
-    {"scion_calculate_segment_index", {5, 112}, false},
+    {"scion_calculate_segment_index", {2, 3, 4, 5, 112}, false},
 };
 
 static uint64_t counts[CALLS][NUMBERS];
@@ -649,7 +649,7 @@ static void call_with_null(void) {
     }
     check_number(&calls[REVERSE], scion_try_reverse(NULL, 0), SCION_META_TOO_SHORT);
     check_number(&calls[EXPIRATION], scion_expiration(NULL, 0), SCION_META_TOO_SHORT);
-    check_number(&calls[SEGMENT], scion_calculate_segment_index(NULL, 0, 0), SCION_HOP_OUT_OF_BOUNDS);
+    check_number(&calls[SEGMENT], scion_calculate_segment_index(NULL, 0, 0), SCION_META_TOO_SHORT);
     uint8_t macs[2][16];
     scion_aes_cmac(key, NULL, 0, macs[0]);
     scion_aes_cmac(key, path, 0, macs[1]);

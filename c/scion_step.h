@@ -55,8 +55,8 @@ extern "C" {
  * has the version, so a program that makes the call does not link with an archive of another version. It returns
  * SCION_STEP_VERSION.
  */
-#define SCION_STEP_VERSION 1
-uint32_t scion_step_version_1(void);
+#define SCION_STEP_VERSION 2
+uint32_t scion_step_version_2(void);
 
 /* The most bytes of stack that a call takes. The whole step takes most: 2,860 when it was measured. */
 #define SCION_STEP_STACK 4096
@@ -210,7 +210,7 @@ ScionReply scion_try_reverse(uint8_t *path, size_t path_length);
 /* When the path expires: 2 to 4 or 111. */
 ScionReply scion_expiration(const uint8_t *path, size_t path_length);
 
-/* The segment that a hop lies in: 5 or 112. */
+/* The segment that a hop lies in: 2 to 5 or 112. */
 ScionReply scion_calculate_segment_index(const uint8_t *path, size_t path_length, uint8_t hop_idx);
 
 /* ---- the journey check */

@@ -46,10 +46,10 @@ pub fn refusal_number(why: StandardRoutingError) -> u8
 
 // ---- the values
 
-fn flag(cons_dir: bool) -> u64
-    ensures { λ r. ⌜ r ≡ flag «cons_dir» ⌝ }
+pub fn flag(is_set: bool) -> u64
+    ensures { λ r. ⌜ r ≡ flag «is_set» ⌝ }
 {
-    if cons_dir { 1 } else { 0 }
+    if is_set { 1 } else { 0 }
 }
 
 fn advance_values(why: AdvanceError) -> [u64; 4]

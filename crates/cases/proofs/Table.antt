@@ -15,7 +15,8 @@ use Rattle.standard_path.specs.declared.view.HeaderCheck.{HeaderCheck}
 use Rattle.standard_path.specs.declared.view.HeaderCheck.the-variants.{Complete, Failed as Failing}
 use Rattle.standard_path.specs.declared.view.HeaderError.the-variants.{MetaTooShort, DataTooShort, TooManyHops}
 use Rattle.segments.specs.Segments.{segments, segmentCount}
-use Rattle.reverse.specs.Reverse.{reverseNumber, setLengths, swapLengths, toggleConsDir, toggleConsDirs, lastFirst, reverseFields, reverseParts, reversed, reverseAnswer, bytesLeft, reverseBytes}
+use Rattle.reverse_parts.specs.Parts.{setLengths, swapLengths, toggleConsDir, toggleConsDirs, lastFirst, reverseFields, reverseParts}
+use Rattle.reverse.specs.Reverse.{reverseNumber, reversed, reverseAnswer, bytesLeft, reverseBytes}
 use Rattle.reverse.specs.declared.Reversal.{Reversal}
 use Rattle.reverse.specs.declared.Reversal.the-variants.{Reversed, Failed}
 use Rattle.interface_table.specs.Table.{idsAscending, statesSound, tableSound, stateOf, linkType, isUp, isAmong, pairAllowed}

@@ -4,12 +4,10 @@ use edition::Edition;
 use journey_check::verdict;
 use reply::Reply;
 use routing::step;
-use standard_path::view;
 ghost use mathlib.Core.Path.{_≡_};
 ghost use Rattle.cmac.specs.Cmac.{aesCmac};
 ghost use Rattle.hop_mac.specs.Mac.{hopMac};
-ghost use Rattle.standard_path.specs.Header.{segmentIndex};
-ghost use Rattle.segments.specs.Segments.{expiration};
+ghost use Rattle.expiration.specs.Expiration.{expiration};
 ghost use Rattle.reverse.specs.Reverse.{reverseAnswer, reverseBytes};
 ghost use Rattle.edition.specs.declared.Edition.the-variants.{First};
 ghost use Rattle.ingress.specs.Ingress.{ingress};
@@ -23,10 +21,10 @@ ghost use Rattle.reply.specs.Reply.{stepReply, ingressReply, reversalReply, exp
 // The version of these calls, which each change to one of them or to what it answers raises. The name has it too: a program that
 // asks for it does not link with an archive of another version.
 #[no_mangle]
-pub extern "C" fn scion_step_version_1() -> u32
-    ensures { λ r. ⌜ r ≡ 1 ⌝ }
+pub extern "C" fn scion_step_version_2() -> u32
+    ensures { λ r. ⌜ r ≡ 2 ⌝ }
 {
-    1
+    2
 }
 
 // ---- the step
@@ -130,14 +128,14 @@ pub extern "C" fn scion_try_reverse(path: &mut [u8]) -> Reply
 pub extern "C" fn scion_expiration(path: &[u8]) -> Reply
     ensures { λ r. ⌜ r ≡ expirationReply (expiration (now (path .entry))) ⌝ }
 {
-    reply::expiration_reply(segments::expiration(path))
+    reply::expiration_reply(expiration::expiration(path))
 }
 
 #[no_mangle]
 pub extern "C" fn scion_calculate_segment_index(path: &[u8], hop_idx: u8) -> Reply
-    ensures { λ r. ⌜ r ≡ segmentReply «hop_idx» (segmentIndex (now (path .entry)) «hop_idx») ⌝ }
+    ensures { λ r. ⌜ r ≡ segmentReply (now (path .entry)) «hop_idx» ⌝ }
 {
-    reply::segment_reply(hop_idx, view::calculate_segment_index(path, hop_idx))
+    reply::segment_reply(path, hop_idx)
 }
 
 // ---- the journey check

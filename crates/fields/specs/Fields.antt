@@ -44,7 +44,7 @@ macField hop = tabulate 6 0 (λ i. getD hop (6 + i) 0)
 -- ---- in travel direction: the first of two with C set, else the second
 
 abbrev pub byDirection : {A : Type 0} → Bool → A → A → A
-byDirection c set clear = cond c set clear
+byDirection c along against = cond c along against
 
 unfoldable pub travelIngress : Bool → List ℕ → ℕ
 travelIngress c hop = byDirection c (consIngress hop) (consEgress hop)

@@ -4,7 +4,7 @@ use Prim.Native.Nat.{ℕ, _+_, _*_, min}
 
 -- 1 for a nonzero length
 abbrev pub nonzero : ℕ → ℕ
-nonzero length = min length 1
+nonzero n = min n 1
 
 abbrev pub infoCount : ℕ → ℕ → ℕ → ℕ
 infoCount seg0 seg1 seg2 = nonzero seg0 + nonzero seg1 + nonzero seg2

@@ -5,15 +5,14 @@
 // Copyright 2026 Anapaya Systems
 // Licensed under the Apache License, Version 2.0: see NOTICE.
 ghost use mathlib.Core.Path.{_≡_};
-ghost use Rattle.fields.specs.Layout.{nonzero, infoCount, hopCount, infoOffset, hopOffset};
+ghost use Rattle.fields.specs.Layout.{infoOffset, hopOffset};
 
 pub struct StdPathMetaLayout;
 
 impl StdPathMetaLayout {
     pub const SIZE_BYTES: usize = 4;
 
-    // The byte in which each field starts. CurrINF has two bits and CurrHF six, in one byte; then there are six reserved bits, and six
-    // for each length.
+    // The byte in which each field starts: CurrINF and CurrHF are in one byte, then there are six reserved bits, then the lengths.
     pub const CURR_INFO_FIELD: u8 = 0;
 
     pub const CURR_HOP_FIELD: u8 = 0;
@@ -23,6 +22,26 @@ impl StdPathMetaLayout {
     pub const SEG1_LEN: u8 = 2;
 
     pub const SEG2_LEN: u8 = 3;
+
+    // The byte with the low bits of a length that lies in two bytes.
+    pub const SEG0_LEN_LOW: u8 = 2;
+
+    pub const SEG1_LEN_LOW: u8 = 3;
+
+    // How many values the bits of each field have, or those in each of its two bytes.
+    pub const CURR_INFO_FIELD_VALUES: u8 = 4;
+
+    pub const CURR_HOP_FIELD_VALUES: u8 = 0x40;
+
+    pub const SEG0_LEN_HIGH_VALUES: u8 = 4;
+
+    pub const SEG0_LEN_LOW_VALUES: u8 = 0x10;
+
+    pub const SEG1_LEN_HIGH_VALUES: u8 = 0x10;
+
+    pub const SEG1_LEN_LOW_VALUES: u8 = 4;
+
+    pub const SEG2_LEN_VALUES: u8 = 0x40;
 
     // 01's limit, one more than the Rust's constant of this name.
     pub const MAX_TOTAL_HOPS: u8 = 64;
@@ -62,6 +81,8 @@ impl HopFieldLayout {
 
     pub const MAC: u8 = 6;
 
+    pub const MAC_SIZE_BYTES: usize = 6;
+
     // Where the hop field with this index starts, behind the info fields.
     pub fn offset(infos: u8, index: u8) -> usize
         ensures { λ r. ⌜ r ≡ hopOffset infos index ⌝ }
@@ -69,33 +90,5 @@ impl HopFieldLayout {
         StdPathMetaLayout::SIZE_BYTES
             + InfoFieldLayout::SIZE_BYTES * (infos as usize)
             + HopFieldLayout::SIZE_BYTES * (index as usize)
-    }
-}
-
-// The three lengths; no call needs more of the Rust's type of this name than `view` has.
-pub struct StdPathDataLayout {
-    pub seg0: u8,
-    pub seg1: u8,
-    pub seg2: u8,
-}
-
-// 1 for a nonzero length.
-fn nonzero_length(length: u8) -> usize
-    ensures { λ r. ⌜ r ≡ nonzero length ⌝ }
-{
-    if length == 0 { 0 } else { 1 }
-}
-
-impl StdPathDataLayout {
-    pub fn info_field_count(self) -> usize
-        ensures { λ r. ⌜ r ≡ infoCount (self .seg0) (self .seg1) (self .seg2) ⌝ }
-    {
-        nonzero_length(self.seg0) + nonzero_length(self.seg1) + nonzero_length(self.seg2)
-    }
-
-    pub fn hop_field_count(self) -> usize
-        ensures { λ r. ⌜ r ≡ hopCount (self .seg0) (self .seg1) (self .seg2) ⌝ }
-    {
-        (self.seg0 as usize) + (self.seg1 as usize) + (self.seg2 as usize)
     }
 }

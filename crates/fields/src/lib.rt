@@ -10,6 +10,9 @@ pub mod layout;
 use layout::HopFieldLayout;
 use layout::InfoFieldLayout;
 ghost use mathlib.Core.Path.{_≡_};
+ghost use Prim.Native.Nat.{_+_};
+ghost use lib.ListN.{getD};
+ghost use Rattle.octets.specs.Bytes.{tabulate};
 ghost use Rattle.fields.specs.Fields.{consDir, peering, segId, timestamp, consEgressAlert, consIngressAlert, expTime};
 ghost use Rattle.fields.specs.Fields.{consIngress, consEgress, macField, travelIngress, travelEgress};
 ghost use Rattle.fields.specs.Fields.{travelIngressAlert, travelEgressAlert, expiry};
@@ -73,17 +76,25 @@ pub fn cons_egress(hop: &[u8]) -> u16
     octets::u16_at(hop, HopFieldLayout::CONS_EGRESS)
 }
 
-pub fn mac(hop: &[u8]) -> [u8; 6]
+// As many bytes from a place on as a MAC has.
+fn mac_at(bytes: &[u8], at: u8) -> [u8; HopFieldLayout::MAC_SIZE_BYTES]
+    ensures { λ r. ⌜ r ≡ tabulate 6 0 (λ i. getD (now (bytes .entry)) (at + i) 0) ⌝ }
+{
+    let place = at as usize;
+    [
+        octets::byte_at(bytes, place),
+        octets::byte_at(bytes, place + 1),
+        octets::byte_at(bytes, place + 2),
+        octets::byte_at(bytes, place + 3),
+        octets::byte_at(bytes, place + 4),
+        octets::byte_at(bytes, place + 5),
+    ]
+}
+
+pub fn mac(hop: &[u8]) -> [u8; HopFieldLayout::MAC_SIZE_BYTES]
     ensures { λ r. ⌜ r ≡ macField (now (hop .entry)) ⌝ }
 {
-    [
-        octets::u8_at(hop, HopFieldLayout::MAC),
-        octets::u8_at(hop, HopFieldLayout::MAC + 1),
-        octets::u8_at(hop, HopFieldLayout::MAC + 2),
-        octets::u8_at(hop, HopFieldLayout::MAC + 3),
-        octets::u8_at(hop, HopFieldLayout::MAC + 4),
-        octets::u8_at(hop, HopFieldLayout::MAC + 5),
-    ]
+    mac_at(hop, HopFieldLayout::MAC)
 }
 
 // ---- a hop field in travel direction

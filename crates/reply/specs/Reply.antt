@@ -3,9 +3,11 @@
 use Prim.Native.Nat.{ℕ}
 use mathlib.Core.List.{List, [], _∷_}
 use lib.ListN.{length, getD}
-use Rattle.segments.specs.Segments.{expirationNumber}
-use Rattle.segments.specs.declared.PathExpiration.{PathExpiration}
-use Rattle.segments.specs.declared.PathExpiration.the-variants as expiring
+use Rattle.questions.specs.Questions.{asks}
+use Rattle.standard_path.specs.Header.{headerNumber, headerQuestions, segmentIndex}
+use Rattle.expiration.specs.Expiration.{expirationNumber}
+use Rattle.expiration.specs.declared.PathExpiration.{PathExpiration}
+use Rattle.expiration.specs.declared.PathExpiration.the-variants as expiring
 use Rattle.standard_path.specs.declared.view.SegmentIndex.{SegmentIndex}
 use Rattle.standard_path.specs.declared.view.SegmentIndex.the-variants as segment
 use Rattle.reverse.specs.Reverse.{reverseNumber}
@@ -66,9 +68,14 @@ expirationReply (expiring.At time) = reply 111 (time ∷ []) NoMessage
 expirationReply (expiring.Refused error) = reply (expirationNumber (expiring.Refused error)) [] NoMessage
 
 -- of the hop with this index: its segment, and whether it is the first there, and the last
-unfoldable pub segmentReply : ℕ → SegmentIndex → Reply
-segmentReply hop (segment.At index start end) = reply 112 (index ∷ flag start ∷ flag end ∷ []) NoMessage
-segmentReply hop segment.OutOfBounds = reply 5 (hop ∷ []) NoMessage
+unfoldable pub indexReply : ℕ → SegmentIndex → Reply
+indexReply hop (segment.At index start end) = reply 112 (index ∷ flag start ∷ flag end ∷ []) NoMessage
+indexReply hop segment.OutOfBounds = reply 5 (hop ∷ []) NoMessage
+
+-- the same, 2, 3 and 4 first
+unfoldable pub segmentReply : List ℕ → ℕ → Reply
+segmentReply path hop =
+    asks (λ error. reply (headerNumber error) [] NoMessage) (headerQuestions path) (indexReply hop (segmentIndex path hop))
 
 unfoldable pub journeyReply : Verdict → Reply
 journeyReply verdict.Passed = reply 120 [] NoMessage

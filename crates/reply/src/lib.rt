@@ -4,19 +4,19 @@ use answers::IngressNextAction;
 use answers::StandardRoutingError;
 use answers::StepAnswer;
 use answers::number;
+use expiration::PathExpiration;
 use journey::answer;
 use journey::answer::Verdict;
 use reverse::Reversal;
 use scmp::ScmpError;
-use segments::PathExpiration;
 use standard_path::view;
+use standard_path::view::HeaderCheck;
 use standard_path::view::SegmentIndex;
 ghost use mathlib.Core.Path.{_≡_};
 ghost use mathlib.Core.List.{[], _∷_};
-ghost use Rattle.answers.specs.Answer.{flag};
 ghost use Rattle.scmp.specs.declared.ScmpError.the-variants.{NoMessage};
 ghost use Rattle.reply.specs.Reply.{reply, refusalReply, actionReply, stepReply, ingressReply};
-ghost use Rattle.reply.specs.Reply.{reversalReply, expirationReply, segmentReply, journeyReply};
+ghost use Rattle.reply.specs.Reply.{reversalReply, expirationReply, indexReply, segmentReply, journeyReply};
 
 // 01's number for a refusal, one from 100 on for an action; the values it carries, in 01's order, and how many they are;
 // the SCMP error's type (0 for none), code, and pointer or interface.
@@ -132,20 +132,27 @@ pub fn expiration_reply(answer: PathExpiration) -> Reply
     }
 }
 
-fn flag(is_set: bool) -> u64
-    ensures { λ r. ⌜ r ≡ flag «is_set» ⌝ }
-{
-    if is_set { 1 } else { 0 }
-}
-
-pub fn segment_reply(hop_idx: u8, answer: SegmentIndex) -> Reply
-    ensures { λ r. ⌜ r ≡ segmentReply «hop_idx» answer ⌝ }
+fn index_reply(hop_idx: u8, answer: SegmentIndex) -> Reply
+    ensures { λ r. ⌜ r ≡ indexReply «hop_idx» answer ⌝ }
 {
     match answer {
-        SegmentIndex::At { index, start, end } => {
-            plain(112, 3, [index as u64, flag(start), flag(end), 0])
-        }
+        SegmentIndex::At { index, start, end } => plain(
+            112,
+            3,
+            [index as u64, number::flag(start), number::flag(end), 0],
+        ),
         SegmentIndex::OutOfBounds => value_reply(5, hop_idx as u64),
+    }
+}
+
+pub fn segment_reply(path: &[u8], hop_idx: u8) -> Reply
+    ensures { λ r. ⌜ r ≡ segmentReply (now (path .entry)) «hop_idx» ⌝ }
+{
+    match view::check_header(path) {
+        HeaderCheck::Complete => {
+            index_reply(hop_idx, view::calculate_segment_index(path, hop_idx))
+        }
+        HeaderCheck::Failed(error) => number_reply(view::header_number(error) as u16),
     }
 }
 

@@ -1,6 +1,2 @@
-pub mod FieldOrder
-pub mod FieldSwap
 pub mod Reversible
-pub mod ReversedLengths
-pub mod ReversedInfos
 pub mod Reversed

@@ -15,15 +15,16 @@ use Rattle.standard_path.specs.Meta.{currInf, currHf, seg0Len, seg1Len, seg2Len
 use Rattle.standard_path.specs.Header.{infos, hops, headerSize, infoField, hopField, headerCheck}
 use Rattle.standard_path.proofs.IndexSet.{set-hf-kept, set-hf-byte, set-inf-byte, hf-after-hf, hf-after-inf, inf-after-inf}
 use Rattle.segments.specs.Segments.{segments, segmentCount}
-use Rattle.reverse.specs.Reverse.{swapLengths, toggleConsDirs, reverseFields, reverseParts, reversed, bytesLeft, reverseAnswer, reverseBytes}
+use Rattle.reverse_parts.specs.Parts.{swapLengths, toggleConsDirs, reverseFields, reverseParts}
+use Rattle.reverse.specs.Reverse.{reversed, bytesLeft, reverseAnswer, reverseBytes}
 use Rattle.reverse.specs.declared.Reversal.{Reversal}
 use Rattle.reverse.specs.declared.Reversal.the-variants.{Reversed, Failed}
 use Rattle.reverse.specs.declared.PathReverseError.the-variants.{HeaderFailed, NoSegments, HopOutOfBounds, InfoOutOfBounds}
-use Rattle.reverse.proofs.FieldOrder.{length-reverse-fields, before-fields, behind-fields, reversed-field}
+use Rattle.reverse_parts.proofs.FieldOrder.{length-reverse-fields, before-fields, behind-fields, reversed-field}
 use Rattle.segments.proofs.Walk.{count-at-most}
 use Rattle.reverse.proofs.Reversible.{Whole, whole, Reversible, reversible}
-use Rattle.reverse.proofs.ReversedLengths.{Lengths, own-lengths, infos-of, hops-of, length-swap-lengths, behind-lengths, swapped-infos, swapped-hops, swapped-used}
-use Rattle.reverse.proofs.ReversedInfos.{toggleInfo, length-toggle, before-toggle, behind-toggle, toggled-info}
+use Rattle.reverse_parts.proofs.ReversedLengths.{Lengths, own-lengths, infos-of, hops-of, length-swap-lengths, behind-lengths, swapped-infos, swapped-hops, swapped-used}
+use Rattle.reverse_parts.proofs.ReversedInfos.{toggleInfo, length-toggle, before-toggle, behind-toggle, toggled-info}
 
 -- ---- the fields
 

@@ -11,9 +11,13 @@ use borrow.Author.Tests.{leb-true, ltb-true, eqb-false, eq-eqb, ne-eqb, le-ltb, 
 use Rattle.questions.specs.Questions.{asks, within}
 use Rattle.questions.proofs.Asked.{asks-append, asks-within}
 use Rattle.standard_path.specs.Meta.{currInf, currHf, seg0Len}
-use Rattle.standard_path.specs.Header.{hops, headerSize, metaThere, fieldsThere, hopsFew, headerQuestions, headerCheck}
+use Rattle.standard_path.specs.Header.{infos, hops, headerSize, metaThere, fieldsThere, hopsFew, headerQuestions, headerCheck}
 use Rattle.standard_path.proofs.HeaderAsked.{header-asked}
 use Rattle.segments.specs.Segments.{segmentCount}
+use Rattle.reverse_parts.specs.Parts.{swapLengths, reverseParts}
+use Rattle.reverse_parts.specs.Inner.{reversePartsThere}
+use Rattle.reverse_parts.proofs.FieldOrder.{parts-there}
+use Rattle.reverse_parts.proofs.ReversedLengths.{length-swap-lengths}
 use Rattle.reverse.specs.Reverse.{indexQuestions, reverseAnswer}
 use Rattle.standard_path.specs.declared.view.HeaderCheck.{HeaderCheck}
 use Rattle.standard_path.specs.declared.view.HeaderCheck.the-variants.{Complete}
@@ -95,3 +99,9 @@ module _ (path : List ℕ) where
       go Complete false true false p q r t f = let z : _≡_ {A = ℕ} 0 1 = cc in absurd (omega arith)
       go Complete false true true p q r t f =
           record { complete = p; segments = eqb-false _ _ q; hop = ltb-true _ _ r; info = ltb-true _ _ t }
+
+  -- all fields of such a path are there, also once the lengths are swapped
+  pub parts-all-there : reverseAnswer path ≡ Reversed
+      → reversePartsThere (infos path) (hops path) (swapLengths path) ≡ reverseParts (infos path) (hops path) (swapLengths path)
+  unfolding headerSize
+  parts-all-there e = parts-there _ _ _ (rw (length-swap-lengths path) (whole (reversible e .complete) .fits))

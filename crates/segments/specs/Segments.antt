@@ -1,24 +1,19 @@
--- 01, 'view.rs' and 'The shape of each place': the segments of a path before the first zero length, an iterator over them, and when the
--- path ends. The Rust: `segments`, `expiration` and `SegmentIterator` of view.rs.
+-- 01, 'view.rs' and 'The shape of each place': the segments of a path before the first zero length, and an iterator over them. The Rust:
+-- `segments` and `SegmentIterator` of view.rs.
 -- Assumes nothing.
-use Prim.Native.Nat.{ℕ, _+_, _*_, min}
+use Prim.Native.Nat.{ℕ, _+_, _*_}
 use mathlib.Core.Bool.{Bool, true, false, cond}
-use mathlib.Core.List.{List, [], _∷_, map}
+use mathlib.Core.List.{List, [], _∷_}
 use lib.Dec.{eqb, ltb, leb}
 use lib.ListN.{length, getD, take, drop}
 use denote.Ref.{RefT, now}
-use Rattle.questions.specs.Questions.{asks}
-use Rattle.octets.specs.Bytes.{tabulate}
 use Rattle.standard_path.specs.Meta.{seg0Len, seg1Len, seg2Len}
-use Rattle.fields.specs.Fields.{timestamp, expTime, expiry}
 use Rattle.fields.specs.Layout.{hopOffset}
-use Rattle.standard_path.specs.Header.{infos, hops, infoField, hopField, headerNumber, headerQuestions}
+use Rattle.standard_path.specs.Header.{infos, hops}
 use Rattle.segments.specs.declared.SegmentPlace.{SegmentPlace}
 use Rattle.segments.specs.declared.SegmentStep.{SegmentStep}
 use Rattle.segments.specs.declared.SegmentStep.the-variants.{Segment, End}
 use Rattle.segments.specs.declared.SegmentIterator.{SegmentIterator}
-use Rattle.segments.specs.declared.PathExpiration.{PathExpiration}
-use Rattle.segments.specs.declared.PathExpiration.the-variants.{At, Refused}
 
 -- ---- the segments
 
@@ -43,12 +38,9 @@ segments path = segmentsFrom 0 0 (lengths path)
 unfoldable pub segmentCount : List ℕ → ℕ
 segmentCount path = length (segments path)
 
--- count hop fields from hop field `first` on, as one part; and hop field i of such a part
+-- count hop fields from hop field `first` on, as one part
 unfoldable pub hopFields : List ℕ → ℕ → ℕ → List ℕ
 hopFields path first count = take (12 * count) (drop (hopOffset (infos path) first) path)
-
-unfoldable pub hopOf : List ℕ → ℕ → List ℕ
-hopOf part i = take 12 (drop (12 * i) part)
 
 -- ---- a step along them
 
@@ -83,29 +75,3 @@ stepOf at = nextSegment (now (at .path)) (at .place)
 
 abbrev pub advanced : SegmentIterator → SegmentIterator
 advanced at = record { path = at .path; place = placeAfter (at .place) (stepOf at) }
-
--- ---- when a path ends
-
--- the least of a list of times, of which none is above the cap; the cap for none
-abbrev pub least : List ℕ → ℕ
-least [] = 4294967295
-least (time ∷ times) = min time (least times)
-
-unfoldable pub hopExpiry : List ℕ → ℕ → ℕ → ℕ
-hopExpiry path info hop = expiry (timestamp (infoField path info)) (expTime (hopField path hop))
-
-unfoldable pub segmentExpiry : List ℕ → PathSegment → ℕ
-segmentExpiry path segment = least (tabulate (segment .count) (segment .first) (hopExpiry path (segment .info)))
-
--- the least expiry over the segments, 0 if there are none
-unfoldable pub pathExpiry : List ℕ → ℕ
-pathExpiry path = cond (eqb (segmentCount path) 0) 0 (least (map (segmentExpiry path) (segments path)))
-
--- questions 2, 3 and 4 first
-unfoldable pub expiration : List ℕ → PathExpiration
-expiration path = asks Refused (headerQuestions path) (At (pathExpiry path))
-
--- 01's number of a refusal; 0 for a time
-abbrev pub expirationNumber : PathExpiration → ℕ
-expirationNumber (At time) = 0
-expirationNumber (Refused error) = headerNumber error

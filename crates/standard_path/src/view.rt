@@ -20,35 +20,41 @@ ghost use Rattle.standard_path.specs.Header.{segmentAmong, segmentIndex}
 pub fn curr_info_field_idx(path: &[u8]) -> u8
     ensures { λ r. ⌜ r ≡ currInf (now (path .entry)) ⌝ }
 {
-    octets::u8_at(path, StdPathMetaLayout::CURR_INFO_FIELD) / 0x40
+    octets::u8_at(path, StdPathMetaLayout::CURR_INFO_FIELD)
+        / StdPathMetaLayout::CURR_HOP_FIELD_VALUES
 }
 
 pub fn curr_hop_field_idx(path: &[u8]) -> u8
     ensures { λ r. ⌜ r ≡ currHf (now (path .entry)) ⌝ }
 {
-    octets::u8_at(path, StdPathMetaLayout::CURR_HOP_FIELD) % 0x40
+    octets::u8_at(path, StdPathMetaLayout::CURR_HOP_FIELD)
+        % StdPathMetaLayout::CURR_HOP_FIELD_VALUES
 }
 
 pub fn seg0_len(path: &[u8]) -> u8
     ensures { λ r. ⌜ r ≡ seg0Len (now (path .entry)) ⌝ }
 {
-    octets::u8_at(path, StdPathMetaLayout::SEG0_LEN) % 4 * 0x10
-        + octets::u8_at(path, StdPathMetaLayout::SEG1_LEN) / 0x10
+    octets::u8_at(path, StdPathMetaLayout::SEG0_LEN) % StdPathMetaLayout::SEG0_LEN_HIGH_VALUES
+        * StdPathMetaLayout::SEG0_LEN_LOW_VALUES
+        + octets::u8_at(path, StdPathMetaLayout::SEG0_LEN_LOW)
+            / StdPathMetaLayout::SEG1_LEN_HIGH_VALUES
 }
 
 pub fn seg1_len(path: &[u8]) -> u8
     ensures { λ r. ⌜ r ≡ seg1Len (now (path .entry)) ⌝ }
 {
-    octets::u8_at(path, StdPathMetaLayout::SEG1_LEN) % 0x10 * 4
-        + octets::u8_at(path, StdPathMetaLayout::SEG2_LEN) / 0x40
+    octets::u8_at(path, StdPathMetaLayout::SEG1_LEN) % StdPathMetaLayout::SEG1_LEN_HIGH_VALUES
+        * StdPathMetaLayout::SEG1_LEN_LOW_VALUES
+        + octets::u8_at(path, StdPathMetaLayout::SEG1_LEN_LOW) / StdPathMetaLayout::SEG2_LEN_VALUES
 }
 
 pub fn seg2_len(path: &[u8]) -> u8
     ensures { λ r. ⌜ r ≡ seg2Len (now (path .entry)) ⌝ }
 {
-    octets::u8_at(path, StdPathMetaLayout::SEG2_LEN) % 0x40
+    octets::u8_at(path, StdPathMetaLayout::SEG2_LEN) % StdPathMetaLayout::SEG2_LEN_VALUES
 }
 
+// 1 for a nonzero length.
 fn nonzero_length(length: u8) -> u8
     ensures { λ r. ⌜ r ≡ nonzero length ⌝ }
 {
@@ -75,7 +81,8 @@ pub fn set_curr_info_field(path: &mut [u8], index: u8)
     octets::put_byte(
         path,
         StdPathMetaLayout::CURR_INFO_FIELD as usize,
-        index % 4 * 0x40 + kept,
+        index % StdPathMetaLayout::CURR_INFO_FIELD_VALUES * StdPathMetaLayout::CURR_HOP_FIELD_VALUES
+            + kept,
     );
 }
 
@@ -87,7 +94,8 @@ pub fn set_curr_hop_field(path: &mut [u8], index: u8)
     octets::put_byte(
         path,
         StdPathMetaLayout::CURR_HOP_FIELD as usize,
-        kept * 0x40 + index % 0x40,
+        kept * StdPathMetaLayout::CURR_HOP_FIELD_VALUES
+            + index % StdPathMetaLayout::CURR_HOP_FIELD_VALUES,
     );
 }
 

@@ -59,17 +59,19 @@ pub fn run_in_edition(is_second: bool, case: &Case, path: &mut [u8]) -> Answer {
     })
 }
 
-pub fn segment_index(path: &[u8], hop: u8) -> Option<(usize, bool, bool)> {
+/// The number of a refusal by 2, 3 or 4, or what the Rust gives.
+pub fn segment_index(path: &[u8], hop: u8) -> Result<Option<(usize, bool, bool)>, u16> {
     // SAFETY: pointer and length of a slice that is borrowed for the call
     let reply = unsafe { scion_calculate_segment_index(path.as_ptr(), path.len(), hop) };
-    assert!(
-        reply.number == SCION_SEGMENT_INDEX
-            || reply.number == SCION_HOP_OUT_OF_BOUNDS
-                && reply.count == 1
-                && reply.values[0] == u64::from(hop)
-    );
     let [index, start, end, _] = reply.values;
-    (reply.number == SCION_SEGMENT_INDEX).then_some((index as usize, start == 1, end == 1))
+    match reply.number {
+        SCION_SEGMENT_INDEX => Ok(Some((index as usize, start == 1, end == 1))),
+        SCION_HOP_OUT_OF_BOUNDS => {
+            assert!(reply.count == 1 && index == u64::from(hop));
+            Ok(None)
+        }
+        number => Err(number),
+    }
 }
 
 /// Passed, not passed, or the number of a refusal.

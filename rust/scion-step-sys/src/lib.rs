@@ -8,8 +8,8 @@ pub use numbers::*;
 
 use core::mem::{align_of, offset_of, size_of};
 
-/// The version of the calls, which is also in the name of [`scion_step_version_1`].
-pub const SCION_STEP_VERSION: u32 = 1;
+/// The version of the calls, which is also in the name of [`scion_step_version_2`].
+pub const SCION_STEP_VERSION: u32 = 2;
 
 // ---- answers
 
@@ -74,7 +74,7 @@ pub type ScionStepInEdition = unsafe extern "C" fn(
 ) -> ScionReply;
 
 /// The version's function by its address.
-static VERSION: unsafe extern "C" fn() -> u32 = archive::scion_step_version_1;
+static VERSION: unsafe extern "C" fn() -> u32 = archive::scion_step_version_2;
 
 /// Makes the program refer to the version's symbol, so that it does not link with an archive of another version. The read
 /// is volatile, because `#[used]` on the static would leave a linker free to drop it.
@@ -112,7 +112,7 @@ macro_rules! calls {
 
 calls! {
     /// The version of the archive, 1.
-    fn scion_step_version_1() -> u32;
+    fn scion_step_version_2() -> u32;
 
     /// The whole step, on `path` in place.
     ///
@@ -165,7 +165,7 @@ calls! {
     /// When the path expires.
     fn scion_expiration(path: *const u8, path_length: usize) -> ScionReply;
 
-    /// The segment that a hop lies in; 5 with the index if there is no such hop.
+    /// The segment that a hop lies in, or a refusal by 2, 3, 4, or by 5 with the index if there is no such hop.
     fn scion_calculate_segment_index(path: *const u8, path_length: usize, hop_idx: u8) -> ScionReply;
 
     /// Whether the path travels over the itinerary's stations whatever their clocks read from `earliest` to `latest`:

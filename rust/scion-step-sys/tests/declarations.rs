@@ -95,5 +95,5 @@ fn there_is_one_version() {
     let version = scion_step_sys::SCION_STEP_VERSION;
     assert!(HEADER.contains(&format!("#define SCION_STEP_VERSION {version}\n")));
     // SAFETY: no pointer is passed.
-    assert_eq!(unsafe { scion_step_sys::scion_step_version_1() }, version);
+    assert_eq!(unsafe { scion_step_sys::scion_step_version_2() }, version);
 }

@@ -107,8 +107,8 @@ pub fn expiration(path: &[u8]) -> Result<u32, HeaderError> {
     reply::expiration(ffi::expiration(path))
 }
 
-/// The segment that a hop lies in. Of a path too short for the three lengths a missing byte counts as 0.
-pub fn calculate_segment_index(path: &[u8], hop_idx: u8) -> SegmentIndex {
+/// The segment that a hop lies in.
+pub fn calculate_segment_index(path: &[u8], hop_idx: u8) -> Result<SegmentIndex, HeaderError> {
     reply::segment_index(ffi::calculate_segment_index(path, hop_idx))
 }
 

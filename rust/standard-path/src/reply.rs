@@ -166,25 +166,32 @@ pub(crate) fn reversal(reply: Reply) -> Result<(), PathReverseError> {
     }
 }
 
-pub(crate) fn expiration(reply: Reply) -> Result<u32, HeaderError> {
+/// 2, 3 or 4, of a call that has no other error.
+fn header_error(reply: Reply) -> HeaderError {
     match reply.number {
-        SCION_EXPIRATION => Ok(reply.value(0)),
-        SCION_META_TOO_SHORT => Err(HeaderError::MetaTooShort),
-        SCION_DATA_TOO_SHORT => Err(HeaderError::DataTooShort),
-        SCION_TOO_MANY_HOPS => Err(HeaderError::TooManyHops),
+        SCION_META_TOO_SHORT => HeaderError::MetaTooShort,
+        SCION_DATA_TOO_SHORT => HeaderError::DataTooShort,
+        SCION_TOO_MANY_HOPS => HeaderError::TooManyHops,
         _ => ruled_out(reply),
     }
 }
 
-pub(crate) fn segment_index(reply: Reply) -> SegmentIndex {
+pub(crate) fn expiration(reply: Reply) -> Result<u32, HeaderError> {
     match reply.number {
-        SCION_SEGMENT_INDEX => SegmentIndex::At {
+        SCION_EXPIRATION => Ok(reply.value(0)),
+        _ => Err(header_error(reply)),
+    }
+}
+
+pub(crate) fn segment_index(reply: Reply) -> Result<SegmentIndex, HeaderError> {
+    match reply.number {
+        SCION_SEGMENT_INDEX => Ok(SegmentIndex::At {
             index: reply.value(0),
             start: reply.flag(1),
             end: reply.flag(2),
-        },
-        SCION_HOP_OUT_OF_BOUNDS => SegmentIndex::OutOfBounds,
-        _ => ruled_out(reply),
+        }),
+        SCION_HOP_OUT_OF_BOUNDS => Ok(SegmentIndex::OutOfBounds),
+        _ => Err(header_error(reply)),
     }
 }
 
@@ -234,6 +241,7 @@ mod tests {
         }
         for number in [2, 3, 4] {
             assert_eq!(expiration(reply(number)).unwrap_err().number(), number);
+            assert_eq!(segment_index(reply(number)).unwrap_err().number(), number);
         }
         for number in [2, 3, 4, 23, 24, 25] {
             assert_eq!(journey(reply(number)).unwrap_err().number(), number);
@@ -242,7 +250,7 @@ mod tests {
             assert_eq!(journey(reply(number)).unwrap().number(), number);
         }
         for number in [5, 112] {
-            assert_eq!(segment_index(reply(number)).number(), number);
+            assert_eq!(segment_index(reply(number)).unwrap().number(), number);
         }
     }
 
@@ -253,7 +261,7 @@ mod tests {
             |reply| reversal(reply).is_err(),
             |reply| expiration(reply).is_err(),
             |reply| journey(reply).is_err(),
-            |reply| segment_index(reply) == SegmentIndex::OutOfBounds,
+            |reply| !matches!(segment_index(reply), Ok(SegmentIndex::At { .. })),
         ];
         let refuses = |call: &fn(Reply) -> bool, number| panic::catch_unwind(|| call(reply(number))).unwrap_or(false);
         // A panic says that a number is not taken, without a message.

@@ -94,7 +94,7 @@ fn empty_slices_are_inputs_like_others() {
     );
     assert_eq!(try_reverse(&mut []), Err(PathReverseError::MetaTooShort));
     assert_eq!(expiration(&[]), Err(HeaderError::MetaTooShort));
-    assert_eq!(calculate_segment_index(&[], 0), SegmentIndex::OutOfBounds);
+    assert_eq!(calculate_segment_index(&[], 0), Err(HeaderError::MetaTooShort));
     assert_eq!(check_journey(&[], &[], NOW, NOW), Err(JourneyError::MetaTooShort));
     assert_eq!(check_journey(&[0; 4], &[], NOW, NOW), Err(JourneyError::UnfitItinerary));
 }
@@ -144,14 +144,16 @@ fn a_journey_is_checked() {
 
 #[test]
 fn a_segment_index_skips_the_hops_of_an_empty_segment_but_not_its_place() {
-    let path = [0, 0, 0x20, 0x02]; // (2,0,2)
-    let at = |index, start, end| SegmentIndex::At { index, start, end };
+    let mut path = vec![0, 0, 0x20, 0x02]; // (2,0,2)
+    path.resize(4 + 2 * 8 + 4 * 12, 0);
+    let at = |index, start, end| Ok(SegmentIndex::At { index, start, end });
     assert_eq!(calculate_segment_index(&path, 0), at(0, true, false));
     assert_eq!(calculate_segment_index(&path, 1), at(0, false, true));
     assert_eq!(calculate_segment_index(&path, 2), at(2, true, false));
     assert_eq!(calculate_segment_index(&path, 3), at(2, false, true));
-    assert_eq!(calculate_segment_index(&path, 4), SegmentIndex::OutOfBounds);
-    assert_eq!(calculate_segment_index(&[0, 0, 0x10, 0], 0), at(0, true, true));
+    assert_eq!(calculate_segment_index(&path, 4), Ok(SegmentIndex::OutOfBounds));
+    path.pop();
+    assert_eq!(calculate_segment_index(&path, 0), Err(HeaderError::DataTooShort));
 }
 
 fn bytes(text: &str) -> Vec<u8> {

@@ -7,29 +7,29 @@ use Rattle.reply.proofs.refusal_reply.Tie as tie
 returns : tie.Need-returns
 unfolding refusalReply
 returns c =
-    let refusal-number = c .before .before .before .before .before .before .refusal-number in
-    let refusal-value-count = c .before .before .before .before .before .refusal-value-count in
-    let refusal-values = c .before .before .before .before .refusal-values in
-    let to-scmp-error = c .before .before .before .to-scmp-error in
-    rw (sym (to-scmp-error .ensures) ∙ c .before .enum-told .given .1) (c .plain .ensures ∙ rw (refusal-number .ensures, refusal-value-count .ensures, refusal-values .ensures))
+    let scmp = c .before .before .before in
+    let values = scmp .before in
+    let count = values .before in
+    let told = sym (scmp .to-scmp-error .ensures) ∙ c .before .enum-told .given .1 in
+    rw told (c .plain .ensures ∙ rw (count .before .refusal-number .ensures, count .refusal-value-count .ensures, values .refusal-values .ensures))
 
 returns-2 : tie.Need-returns-2
 unfolding refusalReply
 returns-2 c =
-    let refusal-number = c .before .before .before .before .before .before .refusal-number in
-    let refusal-value-count = c .before .before .before .before .before .refusal-value-count in
-    let refusal-values = c .before .before .before .before .refusal-values in
-    let to-scmp-error = c .before .before .before .to-scmp-error in
-    rw (sym (to-scmp-error .ensures) ∙ c .before .code .given .1, refusal-number .ensures, refusal-value-count .ensures, refusal-values .ensures)
+    let scmp = c .before .before .before in
+    let values = scmp .before in
+    let count = values .before in
+    let told = sym (scmp .to-scmp-error .ensures) ∙ c .before .code .given .1 in
+    rw (told, count .before .refusal-number .ensures, count .refusal-value-count .ensures, values .refusal-values .ensures)
 
 returns-3 : tie.Need-returns-3
 unfolding refusalReply
 returns-3 c =
-    let refusal-number = c .before .before .before .before .before .before .refusal-number in
-    let refusal-value-count = c .before .before .before .before .before .refusal-value-count in
-    let refusal-values = c .before .before .before .before .refusal-values in
-    let to-scmp-error = c .before .before .before .to-scmp-error in
-    rw (sym (to-scmp-error .ensures) ∙ c .before .interface-id .given .1, refusal-number .ensures, refusal-value-count .ensures, refusal-values .ensures)
+    let scmp = c .before .before .before in
+    let values = scmp .before in
+    let count = values .before in
+    let told = sym (scmp .to-scmp-error .ensures) ∙ c .before .interface-id .given .1 in
+    rw (told, count .before .refusal-number .ensures, count .refusal-value-count .ensures, values .refusal-values .ensures)
 
 pub refusal-reply-spec : {M : Type 1} → statement M
 refusal-reply-spec =

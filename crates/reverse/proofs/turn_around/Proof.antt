@@ -1,8 +1,8 @@
 use borrow.Author.Needs.{needs}
 use native.Mathlib.Omega.{arith}
-use Rattle.standard_path.specs.Header.{headerSize}
+use denote.Ref.{now}
 use Rattle.reverse.specs.Reverse.{reversed}
-use Rattle.reverse.proofs.Reversible.{whole, reversible}
+use Rattle.reverse.proofs.Reversible.{reversible, parts-all-there}
 use Rattle.reverse.proofs.turn_around.Statement.{statement}
 use Rattle.reverse.proofs.turn_around.Tie as tie
 
@@ -22,18 +22,13 @@ sub-new-info-2 c =
     let start = c .before .before .before .before .before .before .before .before .before .before .before in
     omega (arith, reversible _ (start .pre) .info)
 
-reverse-parts-requires : tie.Need-reverse-parts-requires
-unfolding headerSize
-reverse-parts-requires c κs =
-    let hop-count = c .before .before .before .before .before .before .before .before .before .before .before in
-    let info-count = hop-count .before .before in
-    let start = info-count .before .before .before in
-    rw (c .before .before .before .swap-lengths .kept .0, info-count .info-field-count .ensures, hop-count .hop-field-count .ensures)
-    (whole _ (reversible _ (start .pre) .complete) .fits)
-
 returns : tie.Need-returns
 unfolding reversed
-returns c = cc
+returns c =
+    let set-indices = c .before .before .before .before .before .before .before .before .before .before in
+    let counts = set-indices .before .before .before .before .before .before .before .before .before .before in
+    let start = counts .before .before .before .before .before .before .before in
+    cc (parts-all-there (now (start .args .path)) (start .pre))
 
 pub turn-around-spec : {M : Type 1} → statement M
 turn-around-spec =
@@ -49,7 +44,7 @@ turn-around-spec =
     (λ c κs. search needs)
     sub-new-info-2
     (λ c κs. search needs)
-    reverse-parts-requires
+    (λ c κs. search needs)
     (λ c κs. search needs)
     (λ c κs. search needs)
     (λ c. search needs)

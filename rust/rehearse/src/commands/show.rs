@@ -77,7 +77,9 @@ fn meta(header: Header<'_>, report: &mut Report) {
     report.text += "meta word (bytes 0 to 3)\n";
     let (curr_inf, curr_hf, reserved) = (header.curr_inf(), header.curr_hf(), header.reserved());
     report.line("indices", format!("CurrINF {curr_inf}, CurrHF {curr_hf}"));
-    report.line("current hop", calculate_segment_index(header.0, curr_hf).to_string());
+    if let Ok(segment) = calculate_segment_index(header.0, curr_hf) {
+        report.line("current hop", segment.to_string());
+    }
     report.line(
         "lengths",
         format!(

@@ -1,0 +1,2 @@
+pub mod Expiration
+pub mod Inner

@@ -1,0 +1,4 @@
+pub mod FieldOrder
+pub mod FieldSwap
+pub mod ReversedLengths
+pub mod ReversedInfos
