@@ -21,7 +21,7 @@ use Rattle.answers.specs.declared.StepAnswer.{StepAnswer}
 use Rattle.answers.specs.declared.StepAnswer.the-variants.{Action, Refused}
 use Rattle.answers.specs.declared.scmp.ScmpError.{ScmpError}
 use Rattle.answers.specs.declared.scmp.ScmpError.the-variants.{NoMessage}
-use Rattle.journey.specs.Verdict.{journeyNumber}
+use Rattle.journey.specs.Questions.{journeyNumber}
 use Rattle.journey.specs.declared.answer.Verdict.{Verdict}
 use Rattle.journey.specs.declared.answer.Verdict.the-variants as verdict
 use Rattle.exports.specs.declared.reply.Reply.{Reply}

@@ -11,7 +11,7 @@ use Rattle.octets.proofs.Bools.{both, each-of}
 use Rattle.standard_path.specs.Header.{hops}
 use Rattle.edition.specs.declared.Edition.{Edition}
 use Rattle.itinerary.specs.Itinerary.{Station}
-use Rattle.journey.specs.Check.{startOf, countOf}
+use Rattle.segment_check.specs.Segment.{startOf, countOf}
 use Rattle.journey.specs.Journey.{StationStep, goesOn, someLeft, orEnds, journey, delivers, endedWell}
 use Rattle.journey.proofs.Stands.{Stands, arrivingSegId}
 use Rattle.journey.proofs.Hops.{Hop, inner, over, start-next, Kind, middle, last, joint, kind, isLast, hop-ahead, hop-across}

@@ -32,7 +32,8 @@ use Rattle.routing.proofs.Inside.{insideQuestions}
 use Rattle.routing_laws.proofs.Whole.{step-asks}
 use Rattle.moves.specs.Moves.{egressMove}
 use Rattle.itinerary.specs.Itinerary.{Station}
-use Rattle.journey.specs.Check.{startOf, countOf, hopOf, leavesBy}
+use Rattle.hop_check.specs.Hop.{leavesBy}
+use Rattle.segment_check.specs.Segment.{startOf, countOf, hopOf}
 use Rattle.journey.specs.Journey.{stepAt, goesOn, delivers}
 use Rattle.journey.proofs.Yes.{yes-valid, through, passed-through}
 use Rattle.journey.proofs.Stands.{Stands, arrivingSegId, leaves, leaves-over}

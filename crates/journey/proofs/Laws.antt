@@ -17,7 +17,8 @@ use Rattle.answers.specs.declared.StepAnswer.{StepAnswer}
 use Rattle.answers.specs.Outcome.{Outcome}
 use Rattle.edition.specs.declared.Edition.{Edition}
 use Rattle.itinerary.specs.Itinerary.{Station}
-use Rattle.journey.specs.Check.{startOf, countOf, hopOf, leavesBy}
+use Rattle.hop_check.specs.Hop.{leavesBy}
+use Rattle.segment_check.specs.Segment.{startOf, countOf, hopOf}
 use Rattle.journey.specs.Journey.{StationStep, goesOn, delivers}
 use Rattle.journey.proofs.Stands.{Stands, arrivingSegId}
 use Rattle.journey.proofs.Hops.{Hop, nextSegment, nextPlace, Kind, middle, last, joint, isLast}

@@ -20,10 +20,10 @@ use Rattle.records.specs.Layout.{Layout}
 use Rattle.itinerary.specs.Itinerary.{Station, stations, itinerarySound, arrivalsFit, tablesSound, planFits, itineraryFits}
 use Rattle.records.proofs.Every.{every-at}
 use Rattle.journey.specs.Check.{noStation}
-use Rattle.journey.specs.Verdict.{stationCount, quiet, questions}
+use Rattle.journey.specs.Questions.{stationCount, quiet, questions}
 use Rattle.journey.proofs.Quiet.{Quiet}
 use Rattle.journey.proofs.Steps.{Given}
-use Rattle.journey.proofs.All.{all-at}
+use Rattle.segment_check.proofs.All.{all-at}
 use Rattle.journey.proofs.Parts.{Counted}
 
 pub record Asked (edition : Edition) (path : List ℕ) (stations : List Station) (earliest latest : ℕ) : Type 0 where

@@ -35,7 +35,7 @@ use Rattle.moves.proofs.Touched.{ingress-fields-moved}
 use Rattle.routing.proofs.Inside.{insideQuestions}
 use Rattle.routing_laws.proofs.Whole.{step-asks}
 use Rattle.itinerary.specs.Itinerary.{Station}
-use Rattle.journey.specs.Check.{startOf, countOf, hopOf, chainedSegId, macsFrom}
+use Rattle.segment_check.specs.Segment.{startOf, countOf, hopOf, chainedSegId, macsFrom}
 use Rattle.journey.specs.Journey.{stepAt}
 use Rattle.journey.proofs.Quiet.{Quiet, quiet-ingress, quiet-egress}
 use Rattle.journey.proofs.Stands.{Stands, checkedSegId, arrivingSegId, deliveredSegId, hop-here, dir-here, info-among, info-room, enters, segments-on}
