@@ -19,6 +19,7 @@ ghost use Rattle.validator.specs.Check.{keyMac, atIngress, atEgress};
 ghost use Rattle.routing.specs.Step.{step};
 ghost use Rattle.records.specs.Layout.{narrow};
 ghost use Rattle.journey.specs.Verdict.{journeyCheck};
+ghost use Rattle.exports.specs.Journey.{SaysWhatTravels};
 ghost use Rattle.exports.specs.Reply.{stepReply, ingressReply, reversalReply, expirationReply, segmentReply, journeyReply};
 
 // The version of these calls, which each change to one of them or to what it answers raises. The name has it too: a program that
@@ -151,6 +152,7 @@ pub extern "C" fn scion_check_journey(
     latest: u32,
 ) -> Reply
     ensures { λ r. ⌜ r ≡ journeyReply (journeyCheck First narrow (now (itinerary .entry)) earliest latest (now (path .entry))) ⌝ }
+    ensures { λ r. ⌜ SaysWhatTravels First narrow (now (itinerary .entry)) earliest latest (now (path .entry)) (r .number) ⌝ }
 {
     reply::journey_reply(verdict::check_journey(Edition::First, path, itinerary, earliest, latest))
 }

@@ -12,6 +12,7 @@ ghost use Rattle.validator.specs.Check.{keyMac, atIngress, atEgress};
 ghost use Rattle.routing.specs.Step.{step};
 ghost use Rattle.records.specs.Layout.{narrow};
 ghost use Rattle.journey.specs.Verdict.{journeyCheck};
+ghost use Rattle.exports.specs.Journey.{SaysWhatTravels};
 ghost use Rattle.exports.specs.Reply.{stepReply, ingressReply, journeyReply};
 
 #[no_mangle]
@@ -111,6 +112,8 @@ pub extern "C" fn scion_check_journey_in_edition(
 ) -> Reply
     ensures { λ r. ⌜ r ≡ journeyReply (journeyCheck (editionOf «is_second») narrow (now (itinerary .entry)) earliest latest
         (now (path .entry))) ⌝ }
+    ensures { λ r. ⌜ SaysWhatTravels (editionOf «is_second») narrow (now (itinerary .entry)) earliest latest (now (path .entry))
+        (r .number) ⌝ }
 {
     reply::journey_reply(verdict::check_journey(
         edition_of(is_second),
