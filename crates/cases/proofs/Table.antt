@@ -38,9 +38,15 @@ use Rattle.routing.specs.Step.{stepFrom, step}
 use Rattle.edition.specs.Edition.{peeringForm, peeringPlaced}
 use Rattle.records.specs.Layout.{narrow}
 use Rattle.records.specs.Records.{every, recordCount, bytesOf, nextOf, arrivalOf, firstInterfaceOf, keyOf, interfaceNumberOf, interfaceStateOf, chainWithin}
-use Rattle.itinerary.specs.Itinerary.{sizeSound, nextSound, areZero, zerosSound, isNoStation, interfaceSound, stationSound, headSound, soundOf, Station, stationWith, stationsOf, stations, tablesSound, arrivalsFit, planFits, itineraryFits}
-use Rattle.journey.specs.Check.{all, lengthsFit, macsFrom, chainedSegId, macFits, arrivesBy, leavesBy, hopFits, segmentFits, segmentPasses, jointPasses, passes}
-use Rattle.journey.specs.Verdict.{questions, quiet, journeyCheck}
+use Rattle.record_rules.specs.Rules.{sizeSound, nextSound, areZero, zerosSound, headSound}
+use Rattle.soundness.specs.Soundness.{isNoStation, interfaceSound, stationSound, soundOf}
+use Rattle.station.specs.Station.{Station, stationWith}
+use Rattle.itinerary.specs.Itinerary.{stationsOf, stations, tablesSound, arrivalsFit, planFits, itineraryFits}
+use Rattle.journey.specs.Check.{lengthsFit, segmentPasses, jointPasses, passes}
+use Rattle.segment_check.specs.Segment.{eachBelow, macsFrom, chainedSegId, segmentFits}
+use Rattle.hop_check.specs.Hop.{macFits, arrivesBy, leavesBy, hopFits}
+use Rattle.journey.specs.Questions.{questions, quiet}
+use Rattle.journey.specs.Verdict.{journeyCheck}
 use Rattle.journey.specs.declared.answer.Verdict.{Verdict}
 use Rattle.journey.specs.declared.answer.Verdict.the-variants.{Passed, NotPassed}
 use Rattle.journey.specs.Journey.{stepAt, goesOn, journey, delivers, endedWell, arrives}
@@ -228,11 +234,11 @@ unfolding every recordCount bytesOf nextOf arrivalOf firstInterfaceOf keyOf inte
 planned = itineraryFits narrow plan 2
 
 asked : List ℕ → Verdict
-unfolding came planned allYes quiet all upper lower journeyCheck
+unfolding came planned allYes quiet eachBelow upper lower journeyCheck
 asked path = checked path
 
 compared : List ℕ → Bool
-unfolding came all upper lower peeringForm peeringPlaced macChainingBeta lengthsFit macsFrom chainedSegId macFits arrivesBy leavesBy hopFits segmentFits segmentPasses jointPasses passes
+unfolding came eachBelow upper lower peeringForm peeringPlaced macChainingBeta lengthsFit macsFrom chainedSegId macFits arrivesBy leavesBy hopFits segmentFits segmentPasses jointPasses passes
 compared path = passes First (upper ∷ lower ∷ []) 1000 1337 path
 
 stations-are : stations narrow plan ≡ upper ∷ lower ∷ []

@@ -12,6 +12,7 @@ ghost use Rattle.routing.specs.Step.{step};
 ghost use Rattle.records.specs.Layout.{narrow};
 ghost use Rattle.journey.specs.Verdict.{journeyCheck};
 ghost use Rattle.reply.specs.Reply.{stepReply, ingressReply, journeyReply};
+ghost use Rattle.exports.specs.Journey.{SaysWhatTravels};
 
 #[no_mangle]
 pub extern "C" fn scion_handle_standard_path_in_edition(
@@ -110,6 +111,8 @@ pub extern "C" fn scion_check_journey_in_edition(
 ) -> Reply
     ensures { λ r. ⌜ r ≡ journeyReply (journeyCheck (editionOf «is_second») narrow (now (itinerary .entry)) earliest latest
         (now (path .entry))) ⌝ }
+    ensures { λ r. ⌜ SaysWhatTravels (editionOf «is_second») narrow (now (itinerary .entry)) earliest latest (now (path .entry))
+        (r .number) ⌝ }
 {
     reply::journey_reply(verdict::check_journey(
         edition_of(is_second),

@@ -19,9 +19,12 @@ use Rattle.records.specs.Layout.{Layout}
 use Rattle.station.specs.Station.{Station}
 use Rattle.itinerary.specs.Itinerary.{stations}
 use Rattle.journey.specs.declared.answer.Verdict.the-variants.{Passed, NotPassed, Refused}
-use Rattle.journey.specs.Check.{noStation, chainedSegId, macsFrom, passes}
-use Rattle.journey.specs.Journey.{StationStep, journey, endedWell, arrives, Readings, Travels, Demand3}
-use Rattle.journey.specs.Verdict.{questions, journeyCheck}
+use Rattle.segment_check.specs.Segment.{chainedSegId, macsFrom}
+use Rattle.journey.specs.Check.{noStation, passes}
+use Rattle.journey.specs.Journey.{StationStep, journey, endedWell, arrives, Readings, Travels}
+use Rattle.journey.specs.Verdict.{Demand3}
+use Rattle.journey.specs.Questions.{questions}
+use Rattle.journey.specs.Verdict.{journeyCheck}
 use Rattle.journey.proofs.Stands.{Stands, arrivingSegId}
 use Rattle.edition.proofs.Peering.{fits-valid, valid-fits}
 use Rattle.journey.proofs.Hops.{Hop}
@@ -145,8 +148,8 @@ module _ {edition : Edition} {at : StationStep} (laws : Laws edition at) {path :
       let e : length (replicate n reading) ≡ n = length-replicate n reading in
       record {
         each = e;
-        after = λ k l. rw (getD-replicate n k reading 0 (omega (arith, e))) low;
-        before = λ k l. rw (getD-replicate n k reading 0 (omega (arith, e))) high;
+        from = λ k l. rw (getD-replicate n k reading 0 (omega (arith, e))) low;
+        to = λ k l. rw (getD-replicate n k reading 0 (omega (arith, e))) high;
       }
 
   passes-travels : passes edition stations earliest latest path ≡ true → Travels at stations earliest latest path
@@ -156,7 +159,7 @@ module _ {edition : Edition} {at : StationStep} (laws : Laws edition at) {path :
       let first = first-of-shape shape (fits-valid edition path (passes-fits edition stations earliest latest path e)) in
       let each : length readings ≡ length stations = r .each in
       let all-facts = check-facts edition stations earliest latest path e (a .counted) readings
-      (λ k l. r .after k (omega arith)) (λ k l. r .before k (omega arith)) in
+      (λ k l. r .from k (omega arith)) (λ k l. r .to k (omega arith)) in
       well-arrives readings
       (along-well laws (a .given) stations readings 0 0 0 path (starts a) first (reached a)
       (facts-along shape stations readings 0 0 first (omega (arith, a .counted .many, shared-first edition path), each) all-facts))

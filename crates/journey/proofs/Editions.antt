@@ -16,9 +16,10 @@ use Rattle.routing.proofs.Moved.{step-holds}
 use Rattle.routing_laws.proofs.Editions.{step-agrees}
 use Rattle.records.specs.Layout.{Layout}
 use Rattle.station.specs.Station.{Station}
-use Rattle.journey.specs.Check.{noStation, startOf, countOf, hopOf, segmentFits, segmentPasses, jointPasses, passes}
+use Rattle.segment_check.specs.Segment.{startOf, countOf, hopOf, segmentFits}
+use Rattle.journey.specs.Check.{noStation, segmentPasses, jointPasses, passes}
 use Rattle.journey.specs.Verdict.{journeyCheck}
-use Rattle.journey.proofs.All.{all-same}
+use Rattle.segment_check.proofs.All.{all-same}
 use Rattle.journey.specs.Journey.{stepAt, goesOn, someLeft, orEnds, journey}
 
 pub journey-agrees : (k : ℕ) (stations : List Station) (readings path : List ℕ) → Plain path
@@ -52,7 +53,7 @@ module _ (stations : List Station) (path : List ℕ) (plain : Plain path) where
   pub passes-agrees : (earliest latest : ℕ) → passes Second stations earliest latest path ≡ passes First stations earliest latest path
   unfolding passes
   passes-agrees earliest latest =
-      rw (plain .placed, plain .none, all-same (infos path) (segment-agrees earliest latest), all-same (infos path - 1) joint-agrees)
+      rw (plain .placed, plain .none, all-same (infos path) _ _ (λ s h. segment-agrees earliest latest s), all-same (infos path - 1) _ _ (λ s h. joint-agrees s))
 
 pub check-agrees : (layout : Layout) (itinerary : List ℕ) (earliest latest : ℕ) (path : List ℕ) → Plain path
     → journeyCheck Second layout itinerary earliest latest path ≡ journeyCheck First layout itinerary earliest latest path

@@ -16,7 +16,9 @@ use Rattle.answers.specs.declared.Validation.the-variants.{Valid}
 use Rattle.edition.specs.declared.Edition.{Edition}
 use Rattle.edition.specs.Edition.{peeringPath, peeringQuestions}
 use Rattle.station.specs.Station.{Station}
-use Rattle.journey.specs.Check.{longEnough, lengthsFit, lengthsPass, startOf, countOf, shared}
+use Rattle.segment_check.specs.Segment.{startOf, countOf}
+use Rattle.journey.specs.Check.{longEnough, lengthsFit, lengthsPass, shared}
+use Rattle.segment_check.proofs.All.{at-most-three}
 use Rattle.edition.proofs.Peering.{peering-lengths}
 use Rattle.journey.proofs.Hops.{Hop, before-end}
 
@@ -25,10 +27,6 @@ pub data Shape (edition : Edition) (path : List ℕ) : Type 0 where
   two : peeringPath edition path ≡ false → 2 ≤ seg0Len path → 2 ≤ seg1Len path → seg2Len path ≡ 0 → Shape edition path
   three : 2 ≤ seg0Len path → 2 ≤ seg1Len path → 2 ≤ seg2Len path → Shape edition path
   linked : peeringPath edition path ≡ true → Shape edition path
-
-pub at-most-three : (path : List ℕ) (t : ℕ) → t < infos path → t < 3
-unfolding infos
-at-most-three path t h = omega arith
 
 -- a peering path has two info fields
 pub linked-infos : (edition : Edition) (path : List ℕ) → peeringPath edition path ≡ true → infos path ≡ 2

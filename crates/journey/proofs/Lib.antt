@@ -1,7 +1,6 @@
 pub mod Quiet
 pub mod Stands
 pub mod Yes
-pub mod All
 pub mod Hops
 pub mod Steps
 pub mod FirstStation

@@ -10,19 +10,22 @@ use borrow.Author.Tests.{eqb-false, eq-eqb, ne-eqb, le-leb, lt-leb, leb-true, le
 use lib.Dec.{eqb, leb}
 use lib.ListN.{length, getD}
 use Rattle.questions.specs.Questions.{allYes}
-use Rattle.octets.proofs.Bools.{both, each-of-3, each-of-4, first-of, second-of, either, other-of}
+use Rattle.octets.proofs.Bools.{both, each-of, each-of-3, each-of-4, first-of, second-of, either, other-of}
 use Rattle.fields.specs.Fields.{consDir, timestamp, expTime, travelIngress, travelEgress, expiry}
 use Rattle.standard_path.specs.Header.{infos, hops, infoField}
 use Rattle.interface_table.specs.Table.{stateOf, pairAllowed}
-use Rattle.validator.specs.Check.{isListed, linkOf}
+use Rattle.validator.specs.Check.{keyMac, isListed, linkOf}
 use Rattle.edition.specs.declared.Edition.{Edition}
 use Rattle.edition.specs.Edition.{peeringPath, peeringFits}
 use Rattle.station.specs.Station.{Station}
-use Rattle.journey.specs.Check.{all, lengthsPass, macFits, arrivesBy, leavesBy, hopFits, segmentFits, linkFits, jointFits, peeringHopOf, shared, startOf, countOf, hopOf, noStation, stationOf, segmentPasses, jointPasses, passes}
-use Rattle.journey.proofs.All.{all-at, all-of}
+use Rattle.hop_check.specs.Hop.{macFits, arrivesBy, leavesBy, hopFits}
+use Rattle.segment_check.specs.Segment.{eachBelow, chainedSegId, hopFitsAt, segmentFits, peeringHopOf, startOf, countOf, hopOf}
+use Rattle.joint_check.specs.Joint.{changeFits}
+use Rattle.journey.specs.Check.{lengthsPass, shared, noStation, stationOf, segmentPasses, jointPasses, passes}
+use Rattle.segment_check.proofs.All.{all-at, all-of, at-most-three}
 use Rattle.journey.proofs.Hops.{Onward, inner, over, start-next}
 use Rattle.journey.proofs.Laws.{linkGood}
-use Rattle.journey.proofs.Lengths.{Shape, linked-infos, spare, at-most-three, all-long, all-double, station-among, start-enough, fit-shape, shape-fit}
+use Rattle.journey.proofs.Lengths.{Shape, linked-infos, spare, all-long, all-double, station-among, start-enough, fit-shape, shape-fit}
 use Rattle.journey.proofs.Facts.{HopFacts, AllFacts, shared-plain, shared-linked}
 
 -- ---- what is read of a station that 9 lets in
@@ -92,6 +95,10 @@ module _ {edition : Edition} {path : List ℕ} {stations : List Station} (shape 
       facts (stationIndex edition path t m) t m (index-among t m h w) h w (omega (arith, start-enough shape t h, shared-first edition path))
 
 module _ (edition : Edition) (stations : List Station) (earliest latest : ℕ) (path : List ℕ) where
+  -- the SegID that hop m of segment t is checked under
+  abbrev underSegId : ℕ → ℕ → ℕ
+  underSegId t m = chainedSegId (peeringHopOf edition path t) (infoField path t) (hopOf path t) m
+
   -- ---- from the check to the facts
 
   module _ (e : passes edition stations earliest latest path ≡ true) where
@@ -99,8 +106,8 @@ module _ (edition : Edition) (stations : List Station) (earliest latest : ℕ) (
     unfolding passes
     passes-fits = first-of (peeringFits edition path) _ e
 
-    parts : (lengthsPass edition path ≡ true) × (all (infos path) (segmentPasses edition stations earliest latest path) ≡ true)
-        × (all (infos path - 1) (jointPasses edition stations path) ≡ true)
+    parts : (lengthsPass edition path ≡ true) × (eachBelow (infos path) (segmentPasses edition stations earliest latest path) ≡ true)
+        × (eachBelow (infos path - 1) (jointPasses edition stations path) ≡ true)
     unfolding passes
     parts = each-of-3 (lengthsPass edition path) _ _ (second-of (peeringFits edition path) _ e)
 
@@ -118,18 +125,18 @@ module _ (edition : Edition) (stations : List Station) (earliest latest : ℕ) (
     early t h = leb-true _ _ (first-of (leb (timestamp (infoField path t)) earliest) _ (segment-passes t h))
 
     hop-fits : (t m : ℕ) → t < infos path → m < countOf path t
-        → hopFits (stationOf edition stations path t m) latest (peeringHopOf edition path t) (infoField path t) (hopOf path t) (countOf path t) m
+        → hopFitsAt (stationOf edition stations path t m) latest (peeringHopOf edition path t) (infoField path t) (hopOf path t) (countOf path t) m
         ≡ true
     unfolding segmentPasses segmentFits
     hop-fits t m h w =
-        all-at (countOf path t) (λ m. hopFits (stationOf edition stations path t m) latest (peeringHopOf edition path t) (infoField path t)
+        all-at (countOf path t) (λ m. hopFitsAt (stationOf edition stations path t m) latest (peeringHopOf edition path t) (infoField path t)
         (hopOf path t) (countOf path t) m)
         (second-of (leb (timestamp (infoField path t)) earliest) _ (segment-passes t h)) m w
 
     -- the four tests of a hop
     record Fitting (t m : ℕ) : Type 0 where
       late : latest ≤ expiry (timestamp (infoField path t)) (expTime (hopOf path t m))
-      mac : macFits (stationOf edition stations path t m) (peeringHopOf edition path t) (infoField path t) (hopOf path t) m ≡ true
+      mac : macFits (keyMac (stationOf edition stations path t m .key)) (infoField path t) (hopOf path t m) (underSegId t m) ≡ true
       came : 1 ≤ m → arrivesBy (stationOf edition stations path t m) (infoField path t) (hopOf path t m) ≡ true
       goes : m + 1 < countOf path t → leavesBy (stationOf edition stations path t m) (infoField path t) (hopOf path t m) ≡ true
 
@@ -139,7 +146,7 @@ module _ (edition : Edition) (stations : List Station) (earliest latest : ℕ) (
         let station = stationOf edition stations path t m in
         let info = infoField path t in
         let held = each-of-4 (leb latest (expiry (timestamp info) (expTime (hopOf path t m))))
-        (macFits station (peeringHopOf edition path t) info (hopOf path t) m)
+        (macFits (keyMac (station .key)) info (hopOf path t m) (underSegId t m))
         (eqb m 0 || arrivesBy station info (hopOf path t m)) (leb (countOf path t) (m + 1) || leavesBy station info (hopOf path t m))
         (hop-fits t m h w) in
         record {
@@ -149,7 +156,17 @@ module _ (edition : Edition) (stations : List Station) (earliest latest : ℕ) (
           goes = λ k. other-of (leb (countOf path t) (m + 1)) _ (lt-leb _ _ k) (held .3);
         }
 
-    -- a joint, with its station's number
+    -- a joint: over a peering link or at one station, and the second hop's arrival
+    joint-parts : (t : ℕ) → t + 1 < infos path
+        → (cond (peeringPath edition path)
+        (leavesBy (stationOf edition stations path t (countOf path t - 1)) (infoField path t) (hopOf path t (countOf path t - 1)))
+        (changeFits (stationOf edition stations path (t + 1) 0) (infoField path t) (hopOf path t (countOf path t - 1))
+        (infoField path (t + 1)) (hopOf path (t + 1) 0)) ≡ true)
+        × (arrivesBy (stationOf edition stations path (t + 1) 0) (infoField path (t + 1)) (hopOf path (t + 1) 0) ≡ true)
+    unfolding jointPasses
+    joint-parts t h = each-of _ _ (joint-passes t h)
+
+    -- at one station
     record Joining (station : Station) (t m : ℕ) : Type 0 where
       listed : isListed (stateOf (station .ids) (station .states) (travelIngress (consDir (infoField path t)) (hopOf path t m))) ≡ true
       leads : isListed (stateOf (station .ids) (station .states) (travelEgress (consDir (infoField path (t + 1))) (hopOf path (t + 1) 0)))
@@ -158,39 +175,17 @@ module _ (edition : Edition) (stations : List Station) (earliest latest : ℕ) (
           (linkOf (stateOf (station .ids) (station .states) (travelIngress (consDir (infoField path t)) (hopOf path t m))))
           (linkOf (stateOf (station .ids) (station .states) (travelEgress (consDir (infoField path (t + 1))) (hopOf path (t + 1) 0))))
           ≡ true
-      came : arrivesBy station (infoField path (t + 1)) (hopOf path (t + 1) 0) ≡ true
 
     joining : peeringPath edition path ≡ false → (t : ℕ) → t + 1 < infos path
         → Joining (stationOf edition stations path (t + 1) 0) t (countOf path t - 1)
-    unfolding jointPasses jointFits
+    unfolding changeFits
     joining plain t h =
         let station = stationOf edition stations path (t + 1) 0 in
         let into = stateOf (station .ids) (station .states) (travelIngress (consDir (infoField path t)) (hopOf path t (countOf path t - 1))) in
         let out = stateOf (station .ids) (station .states) (travelEgress (consDir (infoField path (t + 1))) (hopOf path (t + 1) 0)) in
-        let held = each-of-4 (isListed into) (isListed out) (pairAllowed (linkOf into) (linkOf out)) _
-        (other (peeringPath edition path) _ _ plain (joint-passes t h)) in
-        record { listed = held .0; leads = held .1; allowed = held .2; came = held .3 }
-
-    -- a peering joint, at its two stations
-    joined : peeringPath edition path ≡ true → (t : ℕ) → t + 1 < infos path
-        → (leavesBy (stationOf edition stations path t (countOf path t - 1)) (infoField path t) (hopOf path t (countOf path t - 1)) ≡ true)
-        × (arrivesBy (stationOf edition stations path (t + 1) 0) (infoField path (t + 1)) (hopOf path (t + 1) 0) ≡ true)
-    unfolding jointPasses linkFits
-    joined p t h =
-        let both-good = chosen (peeringPath edition path) _ _ p (joint-passes t h) in (
-          first-of _ _ both-good,
-          second-of (leavesBy (stationOf edition stations path t (countOf path t - 1)) (infoField path t)
-              (hopOf path t (countOf path t - 1))) _ both-good,
-        )
-
-    came-over : (t : ℕ) → t + 1 < infos path
-        → arrivesBy (stationOf edition stations path (t + 1) 0) (infoField path (t + 1)) (hopOf path (t + 1) 0) ≡ true
-    came-over t h = go (peeringPath edition path) refl
-      where
-        go : (peer : Bool) → peeringPath edition path ≡ peer
-            → arrivesBy (stationOf edition stations path (t + 1) 0) (infoField path (t + 1)) (hopOf path (t + 1) 0) ≡ true
-        go true p = joined p t h .1
-        go false p = joining p t h .came
+        let held = each-of-3 (isListed into) (isListed out) (pairAllowed (linkOf into) (linkOf out))
+        (other (peeringPath edition path) _ _ plain (joint-parts t h .0)) in
+        record { listed = held .0; leads = held .1; allowed = held .2 }
 
     module _ (counted : Counted edition path stations) where
       -- 9, at the station of a hop
@@ -204,7 +199,7 @@ module _ (edition : Edition) (stations : List Station) (earliest latest : ℕ) (
           let more : t + 1 ≡ suc t = omega arith in
           subst (λ (u : ℕ). Came u 0) more
           (arrives-let-in (stationOf edition stations path (t + 1) 0) (infoField path (t + 1)) (hopOf path (t + 1) 0)
-          (came-over t (omega arith)))
+          (joint-parts t (omega arith) .1))
       came-by t (suc m) h w =
           arrives-let-in (stationOf edition stations path t (suc m)) (infoField path t) (hopOf path t (suc m))
           (fitting t (suc m) h w .came (omega arith))
@@ -233,7 +228,7 @@ module _ (edition : Edition) (stations : List Station) (earliest latest : ℕ) (
       goes t m h w (over p z k) =
           let last : countOf path t - 1 ≡ m = omega arith in
           subst (λ (n : ℕ). leavesBy (stationOf edition stations path t n) (infoField path t) (hopOf path t n) ≡ true) last
-          (joined p t (omega (arith, linked-infos edition path p)) .0)
+          (chosen (peeringPath edition path) _ _ p (joint-parts t (omega (arith, linked-infos edition path p)) .0))
 
       pub check-facts : (readings : List ℕ) → ((k : ℕ) → k < length stations → earliest ≤ getD readings k 0)
           → ((k : ℕ) → k < length stations → getD readings k 0 ≤ latest) → AllFacts edition path 0 0 stations readings
@@ -260,7 +255,7 @@ module _ (edition : Edition) (stations : List Station) (earliest latest : ℕ) (
       came : letIn (stationOf edition stations path t m) (infoField path t) (hopOf path t m) ≡ true
       begun : timestamp (infoField path t) ≤ reading
       alive : reading ≤ expiry (timestamp (infoField path t)) (expTime (hopOf path t m))
-      mac : macFits (stationOf edition stations path t m) (peeringHopOf edition path t) (infoField path t) (hopOf path t) m ≡ true
+      mac : macFits (keyMac (stationOf edition stations path t m .key)) (infoField path t) (hopOf path t m) (underSegId t m) ≡ true
 
     told : (readings : List ℕ) → AllFacts edition path 0 0 stations readings → (t m : ℕ) → t < infos path → m < countOf path t
         → Told (getD readings (stationIndex edition path t m) 0) t m
@@ -286,7 +281,7 @@ module _ (edition : Edition) (stations : List Station) (earliest latest : ℕ) (
         (counted .later (stationIndex edition path t m) k (index-among shape counted t m h w)) (told early at-early t m h w .came)
 
     hop-passes : (t m : ℕ) → t < infos path → m < countOf path t
-        → hopFits (stationOf edition stations path t m) latest (peeringHopOf edition path t) (infoField path t) (hopOf path t) (countOf path t) m
+        → hopFitsAt (stationOf edition stations path t m) latest (peeringHopOf edition path t) (infoField path t) (hopOf path t) (countOf path t) m
         ≡ true
     unfolding hopFits
     hop-passes t m h w =
@@ -309,7 +304,7 @@ module _ (edition : Edition) (stations : List Station) (earliest latest : ℕ) (
         (all-of (countOf path t) _ (λ m w. hop-passes t m h w))
 
     plain-good : peeringPath edition path ≡ false → (t : ℕ) → t + 1 < infos path → jointPasses edition stations path t ≡ true
-    unfolding jointPasses jointFits allYes
+    unfolding jointPasses changeFits allYes
     plain-good plain t h =
         let long = all-double shape plain t (omega arith) in
         let long-next = all-double shape plain (t + 1) h in
@@ -327,14 +322,14 @@ module _ (edition : Edition) (stations : List Station) (earliest latest : ℕ) (
         subst (λ (k : ℕ). linkGood path (getD stations k noStation) t m ≡ true) here
         (facts-of shape counted early at-early t m (omega arith) (omega arith) .link plain (omega arith) h) in
         let from-15 = second-of (isListed into) _ linked in
-        choose-other (peeringPath edition path) _ _ plain
-        (both
+        both
+        (choose-other (peeringPath edition path) _ _ plain
         (both (both (first-of (isListed into) _ linked) (first-of (isListed out) _ from-15))
-        (first-of _ true (second-of (isListed out) _ from-15)))
-        (from-outside (t + 1) 0 h (omega arith) (omega arith)))
+        (first-of _ true (second-of (isListed out) _ from-15))))
+        (from-outside (t + 1) 0 h (omega arith) (omega arith))
 
     linked-good : peeringPath edition path ≡ true → (t : ℕ) → t + 1 < infos path → jointPasses edition stations path t ≡ true
-    unfolding jointPasses linkFits
+    unfolding jointPasses
     linked-good p t h =
         let two = linked-infos edition path p in
         let long = all-long shape t (omega arith) in
@@ -342,9 +337,10 @@ module _ (edition : Edition) (stations : List Station) (earliest latest : ℕ) (
         let next = start-next path t (omega arith) in
         let none = shared-linked edition path p (t + 1) in
         let m = countOf path t - 1 in
-        choose (peeringPath edition path) _ _ p
-        (both (facts-of shape counted early at-early t m (omega arith) (omega arith) .way (over p (omega arith) (omega arith)))
-        (from-outside (t + 1) 0 h (omega arith) (omega arith)))
+        both
+        (choose (peeringPath edition path) _ _ p
+        (facts-of shape counted early at-early t m (omega arith) (omega arith) .way (over p (omega arith) (omega arith))))
+        (from-outside (t + 1) 0 h (omega arith) (omega arith))
 
     joint-good : (t : ℕ) → t + 1 < infos path → jointPasses edition stations path t ≡ true
     joint-good t h = go (peeringPath edition path) refl

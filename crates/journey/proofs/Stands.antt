@@ -23,56 +23,11 @@ use Rattle.place.specs.Place.{isPeeringHop, crosses, hop, info}
 use Rattle.moves.specs.Moves.{stepped, ingressFields, egressMove}
 use Rattle.edition.proofs.Peering.{peering-path-kept, questions-kept, peering-hop-kept}
 use Rattle.moves.proofs.Touched.{SameInfo, stepped-kept, stepped-inf, stepped-hf, stepped-hop, stepped-info, stepped-info-other, stepped-seg-id}
-use Rattle.journey.specs.Check.{startOf, countOf, hopOf, peeringHopOf, macsFrom, chainedSegId}
+use Rattle.segment_check.specs.Segment.{startOf, countOf, hopOf, peeringHopOf, macsFrom, chainedSegId}
+use Rattle.segment_check.proofs.Chain.{chain-one-more}
 use Rattle.journey.proofs.Quiet.{Quiet, quiet-fields, quiet-egress-move}
 
--- ---- the SegID of a segment, beta step after beta step
-
-module _ (peer : ℕ → Bool) (hop : ℕ → List ℕ) where
-  macs-one-more : (first n : ℕ)
-      → macsFrom peer hop first (suc n)
-      ≡ cond (peer (first + n)) (macsFrom peer hop first n) (macsFrom peer hop first n ++ (macField (hop (first + n)) ∷ []))
-  unfolding macsFrom
-  macs-one-more first zero = let e : first + 0 ≡ first = omega arith in rw e
-  macs-one-more first (suc n) =
-      let e : first + suc n ≡ suc first + n = omega arith in
-      rw (e, macs-one-more (suc first) n) (go (peer first) (peer (suc first + n)))
-    where
-      rest : List (List ℕ)
-      rest = macsFrom peer hop (suc first) n
-
-      new : List (List ℕ)
-      new = macField (hop (suc first + n)) ∷ []
-
-      go : (a b : Bool)
-          → cond a (cond b rest (rest ++ new)) (macField (hop first) ∷ cond b rest (rest ++ new))
-          ≡ cond b (cond a rest (macField (hop first) ∷ rest)) (cond a rest (macField (hop first) ∷ rest) ++ new)
-      go true true = refl
-      go true false = refl
-      go false true = refl
-      go false false = refl
-
-  -- a peering hop's head is left out
-  pub chain-one-more : (info : List ℕ) (n : ℕ)
-      → let next = byDirection (consDir info) 0 1 + n in
-      chainedSegId peer info hop (suc n)
-      ≡ cond (peer next) (chainedSegId peer info hop n) (macBetaStep (chainedSegId peer info hop n) (macField (hop next)))
-  unfolding chainedSegId macChainingBeta
-  chain-one-more info n =
-      ap (macChainingBeta (segId info)) (macs-one-more (byDirection (consDir info) 0 1) n)
-      ∙ go (peer (byDirection (consDir info) 0 1 + n))
-    where
-      macs : List (List ℕ)
-      macs = macsFrom peer hop (byDirection (consDir info) 0 1) n
-
-      mac : List ℕ
-      mac = macField (hop (byDirection (consDir info) 0 1 + n))
-
-      go : (skip : Bool)
-          → macChainingBeta (segId info) (cond skip macs (macs ++ (mac ∷ [])))
-          ≡ cond skip (macChainingBeta (segId info) macs) (macBetaStep (macChainingBeta (segId info) macs) mac)
-      go true = refl
-      go false = chaining-append (segId info) macs _
+-- ---- the SegID of a segment
 
 -- under which hop m of segment t is checked, and as it is when the path arrives there
 abbrev pub checkedSegId : Edition → List ℕ → ℕ → ℕ → ℕ

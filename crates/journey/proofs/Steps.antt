@@ -28,19 +28,20 @@ use Rattle.edition.specs.declared.Edition.{Edition}
 use Rattle.edition.specs.Edition.{peeringPath}
 use Rattle.place.specs.Place.{before, hop, info, nextHop, nextInfo}
 use Rattle.moves.specs.Moves.{ingressSegId, ingressFields, ingressMove, egressMove}
-use Rattle.checks.specs.Checks.{ingressQuestions}
 use Rattle.ingress.specs.Ingress.{alertsAtIngress}
+use Rattle.checks.specs.Checks.{ingressQuestions}
 use Rattle.egress.specs.Egress.{leavingAction, egressAction}
 use Rattle.routing.specs.Step.{leavingQuestions}
 use Rattle.moves.proofs.Touched.{ingress-fields-moved}
 use Rattle.routing.proofs.Inside.{insideQuestions}
 use Rattle.routing_laws.proofs.Whole.{step-asks}
 use Rattle.station.specs.Station.{Station}
-use Rattle.journey.specs.Check.{startOf, countOf, hopOf, chainedSegId, macsFrom}
+use Rattle.segment_check.specs.Segment.{startOf, countOf, hopOf, chainedSegId, macsFrom}
 use Rattle.journey.specs.Journey.{stepAt}
 use Rattle.journey.proofs.Quiet.{Quiet, quiet-ingress, quiet-egress}
 use Rattle.journey.proofs.Stands.{Stands, checkedSegId, arrivingSegId, deliveredSegId, hop-here, dir-here, info-among, info-room, enters, segments-on}
-use Rattle.journey.proofs.Hops.{Hop, Onward, middle, last, joint, placed, inside-onward, in-header, next-in-header, start-next, before-end}
+use Rattle.journey.proofs.Hops.{Hop, Onward, middle, joint, placed, inside-onward, in-header, next-in-header, start-next, before-end}
+use Rattle.place.proofs.Places.{last}
 
 -- what 2, 3, 4 and 25 let through
 pub record Given (path : List ℕ) : Type 0 where

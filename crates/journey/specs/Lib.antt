@@ -1,3 +1,4 @@
+pub mod Questions
+pub mod Journey
 pub mod Check
 pub mod Verdict
-pub mod Journey

@@ -1,48 +1,28 @@
--- 01, 'Journey': the questions of the journey check, their numbers, and its answer.
+-- The answer of the journey check: the questions, then the conditions of a pass. And demand 3, which it meets.
 -- Assumes nothing.
-use Prim.Native.Nat.{ℕ, _+_, _-_}
-use mathlib.Core.Bool.{Bool, not, _&&_, cond}
-use mathlib.Core.List.{List, [], _∷_, _++_}
-use lib.Dec.{eqb, leb}
-use Rattle.questions.specs.Questions.{Questions, asks, within}
-use Rattle.standard_path.specs.Meta.{currInf, currHf}
-use Rattle.fields.specs.Fields.{consIngressAlert, consEgressAlert}
-use Rattle.standard_path.specs.Header.{infos, hops, hopField, headerNumber, headerQuestions}
+use Prim.Native.Nat.{ℕ}
+use mathlib.Core.Path.{_≡_}
+use mathlib.Core.Bool.{true, cond}
+use mathlib.Core.List.{List}
+use mathlib.Core.Logic.{_↔_}
+use Rattle.questions.specs.Questions.{asks, allYes}
 use Rattle.edition.specs.declared.Edition.{Edition}
-use Rattle.edition.specs.Edition.{peeringPath}
 use Rattle.records.specs.Layout.{Layout}
-use Rattle.itinerary.specs.Itinerary.{stations, itineraryFits}
-use Rattle.journey.specs.declared.answer.JourneyError.{JourneyError}
-use Rattle.journey.specs.declared.answer.JourneyError.the-variants.{HeaderFailed, UnfitItinerary, NotAtStart, AlertSet}
+use Rattle.itinerary.specs.Itinerary.{stations}
 use Rattle.journey.specs.declared.answer.Verdict.{Verdict}
 use Rattle.journey.specs.declared.answer.Verdict.the-variants.{Passed, NotPassed, Refused}
-use Rattle.journey.specs.Check.{all, passes}
-
-abbrev pub journeyNumber : JourneyError → ℕ
-journeyNumber (HeaderFailed error) = headerNumber error
-journeyNumber UnfitItinerary = 23
-journeyNumber NotAtStart = 24
-journeyNumber AlertSet = 25
-
--- 'station count = hops − infos + 1', each info field standing for a length that is not 0, so that there are as many hops or more;
--- F-6: 'a peering path has as many stations as hops'
-abbrev pub stationCount : Edition → List ℕ → ℕ
-stationCount edition path = cond (peeringPath edition path) (hops path) (hops path - infos path + 1)
-
--- 'No alert bit in a hop?'
-unfoldable pub quiet : List ℕ → Bool
-quiet path = all (hops path) (λ j. not (consIngressAlert (hopField path j)) && not (consEgressAlert (hopField path j)))
-
--- 2, 3, 4, then 23, 24, 25
-abbrev pub questions : Edition → Layout → List ℕ → ℕ → ℕ → List ℕ → Questions JourneyError
-questions edition layout itinerary earliest latest path =
-    within HeaderFailed (headerQuestions path)
-    ++ ((itineraryFits layout itinerary (stationCount edition path) && leb earliest latest, UnfitItinerary)
-    ∷ (eqb (currHf path) 0 && eqb (currInf path) 0, NotAtStart)
-    ∷ (quiet path, AlertSet)
-    ∷ [])
+use Rattle.journey.specs.Questions.{questions}
+use Rattle.journey.specs.Journey.{stepAt, Travels}
+use Rattle.journey.specs.Check.{passes}
 
 unfoldable pub journeyCheck : Edition → Layout → List ℕ → ℕ → ℕ → List ℕ → Verdict
 journeyCheck edition layout itinerary earliest latest path =
     asks Refused (questions edition layout itinerary earliest latest path)
     (cond (passes edition (stations layout itinerary) earliest latest path) Passed NotPassed)
+
+-- Demand 3, of a verdict: for each call that 2 to 4 and 23 to 25 let through it is passed exactly if the path travels.
+-- The check's definition, `journeyCheck`, meets it: `demand-3` in proofs/Demand3.antt. So does the check's code, by its contract.
+unfoldable pub Demand3 : Edition → Layout → List ℕ → ℕ → ℕ → List ℕ → Verdict → Type 0
+Demand3 edition layout itinerary earliest latest path verdict =
+    allYes (questions edition layout itinerary earliest latest path) ≡ true
+    → (verdict ≡ Passed) ↔ Travels (stepAt edition) (stations layout itinerary) earliest latest path

@@ -1,7 +1,7 @@
 -- Where the lengths fit and the stations are as many as 23 counts, what is asked of the stations is asked of their records.
 -- Assumes nothing.
-use mathlib.Core.Path.{_≡_, refl, ap, sym, _∙_}
-use mathlib.Core.Bool.{Bool, true, false, cond, _&&_, false≢true}
+use mathlib.Core.Path.{_≡_, refl, ap, ap₂, sym, _∙_}
+use mathlib.Core.Bool.{Bool, true, false, cond, _&&_}
 use mathlib.Core.List.{List, [], _∷_}
 use Prim.Native.Nat.{ℕ, zero, suc, _+_, _-_, _≤_, _<_}
 use native.Mathlib.Omega.{arith}
@@ -14,17 +14,21 @@ use Rattle.standard_path.specs.Header.{infos, hops, infoField}
 use Rattle.edition.specs.declared.Edition.{Edition}
 use Rattle.edition.specs.Edition.{peeringPath}
 use Rattle.records.specs.Layout.{Layout}
-use Rattle.records.specs.Records.{recordCount, nextOf, firstStation, chainWithin, recordAfter, stationRecords, tableRecords}
-use Rattle.station.specs.Station.{stationAt}
+use Rattle.records.specs.Records.{recordCount, nextOf, firstStation, chainWithin, recordAfter}
+use Rattle.station.specs.Station.{Station, stationAt}
+use Rattle.records.specs.Records.{stationRecords, tableRecords}
 use Rattle.itinerary.specs.Itinerary.{stations, planFits, itineraryFits}
 use Rattle.itinerary.proofs.Stations.{count-by-records, next-record, record-there, station-from-record}
-use Rattle.journey.specs.Check.{all, segmentFits, linkFits, jointFits, shared, startOf, countOf, hopOf, noStation, stationOf, segmentPasses, jointPasses}
-use Rattle.journey.proofs.Lengths.{Shape, at-most-three, all-long, station-among, start-enough, fit-shape}
+use Rattle.hop_check.specs.Hop.{arrivesBy, leavesBy}
+use Rattle.segment_check.specs.Segment.{eachBelow, segmentFits, startOf, countOf, hopOf, segmentFitsFrom}
+use Rattle.segment_check.proofs.All.{all-same, at-most-three}
+use Rattle.joint_check.specs.Joint.{changeFits}
+use Rattle.joint_check.specs.Inner.{jointFitsFrom}
+use Rattle.journey.specs.Check.{shared, noStation, stationOf, segmentPasses, jointPasses}
+use Rattle.journey.proofs.Lengths.{Shape, all-long, station-among, start-enough, fit-shape}
 use Rattle.journey.proofs.Facts.{shared-linked}
 use Rattle.journey.proofs.LetThrough.{infos-few}
-use Rattle.segment_check.specs.Segment.{segmentFitsFrom}
-use Rattle.segment_check.proofs.All.{all-same}
-use Rattle.journey_check.specs.Inner.{Matched}
+use Rattle.journey_check.specs.Inner.{firstRecord, firstRecords, Matched}
 
 module _ (layout : Layout) (itinerary : List ℕ) where
   abbrev pub records : List ℕ
@@ -90,56 +94,73 @@ module _ (layout : Layout) (itinerary : List ℕ) where
         (startOf path s - shared edition path s + m) noStation (among s m h w)
         ∙ ap (stationAt layout itinerary) (record-after (startOf path s - shared edition path s) m (among s m h w))
 
-    -- the record that a segment starts at
-    abbrev firstOf : ℕ → ℕ
-    firstOf s = getD records (startOf path s - shared edition path s) 0
+    -- ---- what is asked of the records that the segments start at
 
-    three : (a b c s : ℕ) → a ≡ firstOf 0 → b ≡ firstOf 1 → c ≡ firstOf 2 → s < 3 → getD (a ∷ b ∷ c ∷ []) s 0 ≡ firstOf s
-    three a b c zero d e f h = d
-    three a b c (suc zero) d e f h = e
-    three a b c (suc (suc zero)) d e f h = f
-    three a b c (suc (suc (suc s))) d e f h = absurd (omega arith)
+    three : (s : ℕ) → s < 3 → getD (firstRecords edition layout itinerary path) s 0 ≡ firstRecord edition layout itinerary path s
+    three zero h = refl
+    three (suc zero) h = refl
+    three (suc (suc zero)) h = refl
+    three (suc (suc (suc s))) h = absurd (omega arith)
 
-    pub segments-read : (earliest latest : ℕ) {a b c : ℕ} → a ≡ firstOf 0 → b ≡ firstOf 1 → c ≡ firstOf 2
-        → all (infos path) (λ s. segmentFitsFrom edition layout itinerary (getD (a ∷ b ∷ c ∷ []) s 0) earliest latest path s)
-        ≡ all (infos path) (segmentPasses edition (stations layout itinerary) earliest latest path)
-    unfolding segmentPasses segmentFits
-    segments-read earliest latest {a} {b} {c} d e f =
-        all-same (infos path) _ _
-        (λ s h. ap (λ (x : Bool). leb (timestamp (infoField path s)) earliest && x)
-        (all-same (countOf path s) _ _
-        (λ m w. rw (three a b c s d e f (at-most-three path s h), ← station-read s m h w))))
+    module _ {firsts : List ℕ} (e : firsts ≡ firstRecords edition layout itinerary path) where
+      first-read : (s : ℕ) → s < infos path → getD firsts s 0 ≡ firstRecord edition layout itinerary path s
+      first-read s h = rw e (three s (at-most-three path s h))
 
-    pick-true : (b : Bool) (x y : Bool) → b ≡ true → x ≡ cond b x y
-    pick-true true x y e = refl
-    pick-true false x y e = absurd (false≢true e)
+      pub segments-read : (earliest latest : ℕ)
+          → eachBelow (infos path) (λ s. segmentFitsFrom edition layout itinerary (getD firsts s 0) earliest latest path s)
+          ≡ eachBelow (infos path) (segmentPasses edition (stations layout itinerary) earliest latest path)
+      unfolding segmentPasses segmentFits
+      segments-read earliest latest =
+          all-same (infos path) _ _
+          (λ s h. ap (λ (x : Bool). leb (timestamp (infoField path s)) earliest && x)
+          (all-same (countOf path s) _ _ (λ m w. rw (first-read s h, ← station-read s m h w))))
 
-    pick-false : (b : Bool) (x y : Bool) → b ≡ false → y ≡ cond b x y
-    pick-false false x y e = refl
-    pick-false true x y e = absurd (false≢true (sym e))
+      -- the first hop's station, over a peering link, and the second's
+      here-read : (s : ℕ) → s < infos path → peeringPath edition path ≡ true
+          → stationAt layout itinerary (getD records (startOf path s + (countOf path s - 1)) 0)
+          ≡ stationOf edition (stations layout itinerary) path s (countOf path s - 1)
+      here-read s h p =
+          let w : countOf path s - 1 < countOf path s = omega (arith, some-hops s h) in
+          let index : startOf path s + (countOf path s - 1) ≡ startOf path s - shared edition path s + (countOf path s - 1) =
+          omega (arith, shared-linked edition path p s) in
+          rw index
+          (sym (station-from-record layout itinerary records (tableRecords layout itinerary)
+          (startOf path s - shared edition path s + (countOf path s - 1)) noStation (among s (countOf path s - 1) h w)))
 
-    pub joint-read : peeringPath edition path ≡ false → (s : ℕ) → s + 1 < infos path → {station : ℕ}
-        → station ≡ getD records (startOf path (s + 1) - shared edition path (s + 1)) 0
-        → jointFits (stationAt layout itinerary station) (infoField path s) (hopOf path s (countOf path s - 1))
-        (infoField path (s + 1)) (hopOf path (s + 1) 0)
-        ≡ jointPasses edition (stations layout itinerary) path s
-    unfolding jointPasses recordAfter
-    joint-read plain s h {station} e =
-        rw (e, ← station-read (s + 1) 0 h (omega (arith, some-hops (s + 1) h))) (pick-false (peeringPath edition path) _ _ plain)
+      next-read : (s : ℕ) → s < infos path
+          → stationAt layout itinerary (getD firsts s 0) ≡ stationOf edition (stations layout itinerary) path s 0
+      unfolding recordAfter
+      next-read s h = rw (first-read s h) (sym (station-read s 0 h (omega (arith, some-hops s h))))
 
-    -- over the peering link: the first hop's station, and the next
-    pub link-read : peeringPath edition path ≡ true → (s : ℕ) → s + 1 < infos path → {here next : ℕ}
-        → here ≡ getD records (startOf path s + (countOf path s - 1)) 0
-        → next ≡ getD records (startOf path (s + 1) - shared edition path (s + 1)) 0
-        → linkFits (stationAt layout itinerary here) (stationAt layout itinerary next) (infoField path s)
-        (hopOf path s (countOf path s - 1)) (infoField path (s + 1)) (hopOf path (s + 1) 0)
-        ≡ jointPasses edition (stations layout itinerary) path s
-    unfolding jointPasses recordAfter
-    link-read p s h {here} {next} e f =
-        let w : countOf path s - 1 < countOf path s = omega (arith, some-hops s (omega arith)) in
-        let index : startOf path s + (countOf path s - 1) ≡ startOf path s - shared edition path s + (countOf path s - 1) =
-        omega (arith, shared-linked edition path p s) in
-        let last = station-from-record layout itinerary records (tableRecords layout itinerary)
-        (startOf path s - shared edition path s + (countOf path s - 1)) noStation (among s (countOf path s - 1) (omega arith) w) in
-        rw (e, index, ← last)
-        (rw (f, ← station-read (s + 1) 0 h (omega (arith, some-hops (s + 1) h))) (pick-true (peeringPath edition path) _ _ p))
+      joint-read : (s : ℕ) → s + 1 < infos path
+          → jointFitsFrom edition layout itinerary (getD firsts (s + 1) 0) path s
+          ≡ jointPasses edition (stations layout itinerary) path s
+      unfolding jointPasses
+      joint-read s h = go (peeringPath edition path) refl
+        where
+          here : Station
+          here = stationAt layout itinerary (getD records (startOf path s + (countOf path s - 1)) 0)
+
+          here′ : Station
+          here′ = stationOf edition (stations layout itinerary) path s (countOf path s - 1)
+
+          next : Station
+          next = stationAt layout itinerary (getD firsts (s + 1) 0)
+
+          next′ : Station
+          next′ = stationOf edition (stations layout itinerary) path (s + 1) 0
+
+          asked : Bool → Station → Station → Bool
+          asked peer one other =
+              cond peer (leavesBy one (infoField path s) (hopOf path s (countOf path s - 1)))
+              (changeFits other (infoField path s) (hopOf path s (countOf path s - 1)) (infoField path (s + 1)) (hopOf path (s + 1) 0))
+              && arrivesBy other (infoField path (s + 1)) (hopOf path (s + 1) 0)
+
+          go : (peer : Bool) → peeringPath edition path ≡ peer → asked peer here next ≡ asked peer here′ next′
+          go true p = ap₂ (asked true) (here-read s (omega arith) p) (next-read (s + 1) h)
+          go false p = ap (asked false here) (next-read (s + 1) h)
+
+      pub joints-read :
+          eachBelow (infos path - 1) (λ s. jointFitsFrom edition layout itinerary (getD firsts (s + 1) 0) path s)
+          ≡ eachBelow (infos path - 1) (jointPasses edition (stations layout itinerary) path)
+      joints-read = all-same (infos path - 1) _ _ (λ s h. joint-read s (omega arith))

@@ -18,8 +18,9 @@ use Rattle.journey.specs.declared.answer.JourneyError.the-variants.{HeaderFaile
 use Rattle.journey.specs.declared.answer.Verdict.{Verdict}
 use Rattle.journey.specs.declared.answer.Verdict.the-variants.{Passed, NotPassed, Refused}
 use Rattle.journey.specs.Check.{passes}
-use Rattle.journey.specs.Verdict.{questions, journeyCheck}
-use Rattle.journey.specs.Journey.{Demand3}
+use Rattle.journey.specs.Questions.{questions}
+use Rattle.journey.specs.Verdict.{journeyCheck}
+use Rattle.journey.specs.Verdict.{Demand3}
 use Rattle.journey.proofs.Demand3.{demand-3}
 
 abbrev pub orRefused : HeaderCheck → Verdict → Verdict

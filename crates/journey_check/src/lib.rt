@@ -1,4 +1,3 @@
 // The journey check: would a path arrive over the stations of an itinerary, whatever their clocks read from earliest to latest?
-mod joints;
 mod segments;
 pub mod verdict;

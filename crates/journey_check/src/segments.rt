@@ -1,20 +1,14 @@
 // The lengths of a path, and the stations that its segments start at.
 use edition::Edition;
+use itinerary::station::station_record;
 use records::form::Form;
 use segment_check::hops::segment_start;
-use segment_check::segments::segments_fit;
 use standard_path::view;
-use station::station_record;
 ghost use mathlib.Core.Path.{_≡_};
-ghost use Prim.Native.Nat.{_-_};
-ghost use lib.ListN.{getD};
 ghost use Rattle.standard_path.specs.Meta.{seg0Len, seg1Len, seg2Len};
-ghost use Rattle.standard_path.specs.Header.{infos};
 ghost use Rattle.records.specs.Layout.{layoutOf};
-ghost use Rattle.records.specs.Records.{stationRecords};
-ghost use Rattle.itinerary.specs.Itinerary.{stations};
-ghost use Rattle.journey.specs.Check.{all, longEnough, lengthsFit, lengthsPass, startOf, shared, segmentPasses};
-ghost use Rattle.journey_check.specs.Inner.{Matched};
+ghost use Rattle.journey.specs.Check.{longEnough, lengthsFit, lengthsPass, shared};
+ghost use Rattle.journey_check.specs.Inner.{firstRecord, firstRecords};
 
 // ---- the lengths
 
@@ -43,7 +37,7 @@ pub fn lengths_pass(edition: Edition, path: &[u8]) -> bool
     edition::is_peering_path(edition, path) | lengths_fit(path)
 }
 
-// ---- the segments
+// ---- the stations
 
 // How many stations before a segment take two hops.
 fn shared_stations(edition: Edition, path: &[u8], segment: u8) -> u8
@@ -56,15 +50,8 @@ fn shared_stations(edition: Edition, path: &[u8], segment: u8) -> u8
 }
 
 // The record of the station that a segment's first hop goes to.
-pub fn first_station(
-    form: Form,
-    edition: Edition,
-    itinerary: &[u8],
-    path: &[u8],
-    segment: u8,
-) -> u32
-    ensures { λ r. ⌜ r ≡ getD (stationRecords (layoutOf form) (now (itinerary .entry)))
-        (startOf (now (path .entry)) segment - shared edition (now (path .entry)) segment) 0 ⌝ }
+fn first_station(form: Form, edition: Edition, itinerary: &[u8], path: &[u8], segment: u8) -> u32
+    ensures { λ r. ⌜ r ≡ firstRecord edition (layoutOf form) (now (itinerary .entry)) (now (path .entry)) segment ⌝ }
 {
     let start = segment_start(path, segment);
     let shared = shared_stations(edition, path, segment);
@@ -74,22 +61,13 @@ pub fn first_station(
     station_record(form, itinerary, start - shared)
 }
 
-pub fn segments_pass(
-    form: Form,
-    edition: Edition,
-    itinerary: &[u8],
-    earliest: u32,
-    latest: u32,
-    path: &[u8],
-) -> bool
-    requires { ⌜ Matched edition (layoutOf form) (now itinerary) (now path) ⌝ }
-    ensures { λ r. ⌜ r ≡ all (infos (now (path .entry)))
-        (segmentPasses edition (stations (layoutOf form) (now (itinerary .entry))) earliest latest (now (path .entry))) ⌝ }
+// The same of each segment.
+pub fn first_stations(form: Form, edition: Edition, itinerary: &[u8], path: &[u8]) -> [u32; 3]
+    ensures { λ r. ⌜ r ≡ firstRecords edition (layoutOf form) (now (itinerary .entry)) (now (path .entry)) ⌝ }
 {
-    let firsts = [
+    [
         first_station(form, edition, itinerary, path, 0),
         first_station(form, edition, itinerary, path, 1),
         first_station(form, edition, itinerary, path, 2),
-    ];
-    segments_fit(form, edition, itinerary, firsts, earliest, latest, path)
+    ]
 }

@@ -1,10 +1,12 @@
 // The journey check: 01's questions 2 to 4 and 23 to 25, then the conditions of a pass.
-use crate::joints;
 use crate::segments;
 use edition::Edition;
+use itinerary::station;
+use joint_check::joints_fit;
 use journey::answer::JourneyError;
 use journey::answer::Verdict;
 use records::form::Form;
+use segment_check::segments::segments_fit;
 use standard_path::view;
 use standard_path::view::HeaderCheck;
 ghost use mathlib.Core.Path.{_≡_};
@@ -17,8 +19,9 @@ ghost use Rattle.fields.specs.Fields.{consIngressAlert, consEgressAlert};
 ghost use Rattle.records.specs.Layout.{narrow, layoutOf};
 ghost use Rattle.itinerary.specs.Itinerary.{stations, itineraryFits};
 ghost use Rattle.journey.specs.Check.{passes};
-ghost use Rattle.journey.specs.Verdict.{stationCount, quiet, questions, journeyCheck};
-ghost use Rattle.journey.specs.Journey.{Demand3};
+ghost use Rattle.journey.specs.Questions.{stationCount, quiet, questions};
+ghost use Rattle.journey.specs.Verdict.{journeyCheck};
+ghost use Rattle.journey.specs.Verdict.{Demand3};
 ghost use Rattle.journey.specs.declared.answer.Verdict.the-variants.{Passed, NotPassed, Refused};
 
 // ---- the conditions of a pass
@@ -40,8 +43,9 @@ fn passes(
     if !segments::lengths_pass(edition, path) {
         return false;
     }
-    segments::segments_pass(form, edition, itinerary, earliest, latest, path)
-        & joints::joints_pass(form, edition, itinerary, path)
+    let firsts = segments::first_stations(form, edition, itinerary, path);
+    segments_fit(form, edition, itinerary, firsts, earliest, latest, path)
+        & joints_fit(form, edition, itinerary, firsts, path)
 }
 
 // ---- the questions
@@ -66,7 +70,7 @@ fn itinerary_fits(
     ensures { λ r. ⌜ r ≡
         (itineraryFits (layoutOf form) (now (itinerary .entry)) (stationCount edition (now (path .entry))) && leb earliest latest) ⌝ }
 {
-    itinerary::fits(form, itinerary, station_count(edition, path)) & (earliest <= latest)
+    station::fits(form, itinerary, station_count(edition, path)) & (earliest <= latest)
 }
 
 fn is_at_start(path: &[u8]) -> bool
@@ -104,7 +108,8 @@ fn check_complete(
     earliest: u32,
     latest: u32,
 ) -> Verdict
-    ensures { λ r. ⌜ r ≡ asks Refused (drop 3 (questions edition (layoutOf form) (now (itinerary .entry)) earliest latest (now (path .entry))))
+    ensures { λ r. ⌜ r ≡ asks Refused
+        (drop 3 (questions edition (layoutOf form) (now (itinerary .entry)) earliest latest (now (path .entry))))
         (cond (passes edition (stations (layoutOf form) (now (itinerary .entry))) earliest latest (now (path .entry))) Passed NotPassed) ⌝ }
 {
     if !itinerary_fits(form, edition, itinerary, earliest, latest, path) {

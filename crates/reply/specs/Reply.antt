@@ -23,7 +23,7 @@ use Rattle.answers.specs.declared.StepAnswer.{StepAnswer}
 use Rattle.answers.specs.declared.StepAnswer.the-variants.{Action, Refused}
 use Rattle.scmp.specs.declared.ScmpError.{ScmpError}
 use Rattle.scmp.specs.declared.ScmpError.the-variants.{NoMessage}
-use Rattle.journey.specs.Verdict.{journeyNumber}
+use Rattle.journey.specs.Questions.{journeyNumber}
 use Rattle.journey.specs.declared.answer.Verdict.{Verdict}
 use Rattle.journey.specs.declared.answer.Verdict.the-variants as verdict
 use Rattle.reply.specs.declared.Reply.{Reply}

@@ -1,6 +1,7 @@
 // What is asked of each segment of a path, at the stations from a record on that its first hop goes to.
 use crate::hops;
 use edition::Edition;
+use hop_check::hop_fits;
 use hop_mac::mac_beta_step;
 use records::form::Form;
 use standard_path::view;
@@ -11,8 +12,7 @@ ghost use Rattle.aes.specs.ByTable.{roundTable};
 ghost use Rattle.standard_path.specs.Header.{infos, infoField};
 ghost use Rattle.records.specs.Layout.{layoutOf};
 ghost use Rattle.records.specs.Records.{recordAfter};
-ghost use Rattle.journey.specs.Check.{all, hopOf, peeringHopOf, chainedSegId};
-ghost use Rattle.segment_check.specs.Segment.{segmentFitsFrom};
+ghost use Rattle.segment_check.specs.Segment.{eachBelow, hopOf, peeringHopOf, chainedSegId, segmentFitsFrom};
 
 // ---- a segment
 
@@ -26,7 +26,8 @@ fn next_station(form: Form, itinerary: &[u8], station: u32) -> u32
     records::next(form, itinerary, station)
 }
 
-// The SegID that a hop is checked with, from that of the hop before it: that hop's MAC goes in, or, against construction, its own.
+// The SegID that a hop is checked with, from that of the hop before it: that hop's MAC goes in, or, against construction, its own. So
+// the MACs that go in are those from the first on, or from the second.
 fn chained_segment_id(edition: Edition, path: &[u8], segment: u8, before: u16, hop: u8) -> u16
     requires chained { ⌜ before ≡ chainedSegId (peeringHopOf edition (now path) segment) (infoField (now path) segment)
         (hopOf (now path) segment) (hop - 1) ⌝ }
@@ -35,10 +36,11 @@ fn chained_segment_id(edition: Edition, path: &[u8], segment: u8, before: u16, h
         (hopOf (now (path .entry)) segment) hop ⌝ }
 {
     let cons_dir = fields::cons_dir(view::info_field(path, segment));
-    if hop == 0 {
+    if hop < 1 {
         return before;
     }
-    let stepped = if cons_dir { hop - 1 } else { hop };
+    let first: u8 = if cons_dir { 0 } else { 1 };
+    let stepped = first + hop - 1;
     if hops::is_peering_hop(edition, path, segment, stepped) {
         return before;
     }
@@ -71,17 +73,17 @@ fn segment_fits(
     let mut hop: u8 = 0;
     while hop < count {
         segment_id = chained_segment_id(edition, path, segment, segment_id, hop);
-        if !hops::hop_fits(
+        if !hop_fits(
             form,
-            edition,
             table,
             itinerary,
             station,
             latest,
-            path,
-            segment,
+            info,
+            hops::hop_of(path, segment, hop),
             segment_id,
-            hop,
+            hop == 0,
+            count <= hop + 1,
         ) {
             return false;
         }
@@ -104,7 +106,7 @@ fn segments_fit_with(
     path: &[u8],
 ) -> bool
     requires { ⌜ now table ≡ roundTable ⌝ }
-    ensures { λ r. ⌜ r ≡ all (infos (now (path .entry))) (λ s. segmentFitsFrom edition (layoutOf form) (now (itinerary .entry))
+    ensures { λ r. ⌜ r ≡ eachBelow (infos (now (path .entry))) (λ s. segmentFitsFrom edition (layoutOf form) (now (itinerary .entry))
         (getD firsts s 0) earliest latest (now (path .entry)) s) ⌝ }
 {
     let infos = view::info_field_count(path);
@@ -139,7 +141,7 @@ pub fn segments_fit(
     latest: u32,
     path: &[u8],
 ) -> bool
-    ensures { λ r. ⌜ r ≡ all (infos (now (path .entry))) (λ s. segmentFitsFrom edition (layoutOf form) (now (itinerary .entry))
+    ensures { λ r. ⌜ r ≡ eachBelow (infos (now (path .entry))) (λ s. segmentFitsFrom edition (layoutOf form) (now (itinerary .entry))
         (getD firsts s 0) earliest latest (now (path .entry)) s) ⌝ }
 {
     let table = aes::round_table();

@@ -1,7 +1,11 @@
 use borrow.Author.Needs.{needs}
 use mathlib.Core.Path.{sym, _∙_}
+use denote.Ref.{now}
 use borrow.Author.Tests.{not-true, not-false}
+use Rattle.records.specs.Layout.{layoutOf}
 use Rattle.journey.specs.Check.{passes}
+use Rattle.journey_check.specs.Inner.{Matched}
+use Rattle.journey_check.proofs.Stations.{segments-read, joints-read}
 use Rattle.journey_check.proofs.verdict.passes.Statement.{statement}
 use Rattle.journey_check.proofs.verdict.passes.Tie as tie
 
@@ -21,30 +25,26 @@ returns-2 c =
       not-true (lengths-pass .result) (c .if2 .taken),
     )
 
-segments-pass-requires : tie.Need-segments-pass-requires
-segments-pass-requires c κs =
-    let lengths-pass = c .before .lengths-pass in
-    let pre = c .before .before .before .before .before .before .pre in
-    record { fit = sym (lengths-pass .ensures) ∙ not-false (lengths-pass .result) (c .if2 .left); counted = pre }
-
-joints-pass-requires : tie.Need-joints-pass-requires
-joints-pass-requires c κs =
-    let lengths-pass = c .before .before .lengths-pass in
-    let pre = c .before .before .before .before .before .before .before .pre in
-    record { fit = sym (lengths-pass .ensures) ∙ not-false (lengths-pass .result) (c .before .if2 .left); counted = pre }
-
 returns-3 : tie.Need-returns-3
 unfolding passes
 returns-3 c =
-    let fits = c .before .before .before .before .before .peering-fits in
-    let lengths-pass = c .before .before .before .lengths-pass in
+    let fits = c .before .before .before .before .before .before .peering-fits in
+    let lengths-pass = c .before .before .before .before .lengths-pass in
+    let args = c .before .before .before .before .before .before .before .before .before .args in
+    let pre = c .before .before .before .before .before .before .before .before .before .pre in
+    let first-stations = c .before .before .first-stations in
+    let long = not-false (lengths-pass .result) (c .before .before .before .if2 .left) in
+    let matched : Matched (args .edition) (layoutOf (args .form)) (now (args .itinerary)) (now (args .path)) =
+    record { fit = sym (lengths-pass .ensures) ∙ long; counted = pre } in
     rw (
       ← fits .ensures,
-      not-false (fits .result) (c .before .before .before .before .if1 .left),
+      not-false (fits .result) (c .before .before .before .before .before .if1 .left),
       ← lengths-pass .ensures,
-      not-false (lengths-pass .result) (c .before .before .if2 .left),
-      ← c .before .segments-pass .ensures,
-      ← c .joints-pass .ensures,
+      long,
+      ← segments-read _ _ _ _ matched (first-stations .ensures) _ _,
+      ← joints-read _ _ _ _ matched (first-stations .ensures),
+      ← c .before .segments-fit .ensures,
+      ← c .joints-fit .ensures,
     )
 
 pub passes-spec : {M : Type 1} → statement M
@@ -55,6 +55,7 @@ passes-spec =
     returns
     (λ c κs. search needs)
     returns-2
-    segments-pass-requires
-    joints-pass-requires
+    (λ c κs. search needs)
+    (λ c κs. search needs)
+    (λ c κs. search needs)
     returns-3)

@@ -3,9 +3,8 @@ use Prim.Native.Nat.{_-_}
 use native.Mathlib.Omega.{arith}
 use lib.ListN.{getD}
 use Rattle.records.specs.Layout.{layoutOf}
-use Rattle.journey.proofs.Lengths.{at-most-three}
 use Rattle.segment_check.specs.Segment.{segmentFitsFrom}
-use Rattle.segment_check.proofs.All.{Asked, asked-none, asked-no, asked-yes, asked-all}
+use Rattle.segment_check.proofs.All.{at-most-three, Asked, asked-none, asked-no, asked-yes, asked-all}
 use Rattle.segment_check.proofs.segments.segments_fit_with.Statement.{statement}
 use Rattle.segment_check.proofs.segments.segments_fit_with.Tie as tie
 
