@@ -83,3 +83,10 @@ cipher-by-table {t} {v} {w} p q = ap₂ cipherBy p q ∙ (λ i b. cipher-law w b
 pub cipher-words : (t : List ℕ) (w : List (List ℕ)) (b : List ℕ) → cipherBy t w (joined (blockWords b)) ≡ cipherBy t w b
 unfolding cipherBy xorBlock blockWords
 cipher-words t w b = refl
+
+-- a round of a state that is known
+pub round-of : (t k : List ℕ) {s a b : List ℕ} → s ≡ roundBy t a k → a ≡ b → s ≡ roundBy t b k
+round-of t k p q = p ∙ ap (λ (x : List ℕ). roundBy t x k) q
+
+pub last-round-of : (t k : List ℕ) {s a b : List ℕ} → s ≡ lastRoundBy t a k → a ≡ b → s ≡ lastRoundBy t b k
+last-round-of t k p q = p ∙ ap (λ (x : List ℕ). lastRoundBy t x k) q

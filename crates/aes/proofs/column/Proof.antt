@@ -9,18 +9,14 @@ use Rattle.aes.proofs.column.Tie as tie
 returns : tie.Need-returns
 unfolding columnBy
 returns c =
-    let entry = c .before .before .before .before .before .before .before .before .before .entry in
-    let entry2 = c .before .before .before .before .before .before .before .before .entry2 in
-    let rotate = c .before .before .before .before .before .before .before .rotate in
-    let entry3 = c .before .before .before .before .before .before .entry3 in
-    let rotate2 = c .before .before .before .before .before .rotate2 in
-    let rotate3 = c .before .before .before .before .rotate3 in
-    let entry4 = c .before .before .before .entry4 in
+    let at4 = c .before .before .before in
+    let at3 = at4 .before .before .before in
+    let at2 = at3 .before .before in
     bytes-xor-of _ _
     (bytes-xor-of _ _
-    (bytes-xor-of _ _ (entry .ensures) (rotate .ensures ∙ ap rotated (entry2 .ensures)))
-    (rotate3 .ensures ∙ ap rotated (rotate2 .ensures ∙ ap rotated (entry3 .ensures))))
-    (c .rotate6 .ensures ∙ ap rotated (c .before .rotate5 .ensures ∙ ap rotated (c .before .before .rotate4 .ensures ∙ ap rotated (entry4 .ensures))))
+    (bytes-xor-of _ _ (at2 .before .entry .ensures) (at3 .before .rotate .ensures ∙ ap rotated (at2 .entry2 .ensures)))
+    (at4 .before .rotate3 .ensures ∙ ap rotated (at4 .before .before .rotate2 .ensures ∙ ap rotated (at3 .entry3 .ensures))))
+    (c .rotate6 .ensures ∙ ap rotated (c .before .rotate5 .ensures ∙ ap rotated (c .before .before .rotate4 .ensures ∙ ap rotated (at4 .entry4 .ensures))))
 
 pub column-spec : {M : Type 1} → statement M
 column-spec =

@@ -3,20 +3,20 @@ use mathlib.Core.Path.{ap, ap₂, _∙_}
 use Rattle.aes_words.specs.Block.{xorBlock, joined}
 use Rattle.aes_words.specs.Words.{wordBytes, wordsBytes}
 use Rattle.aes.specs.ByTable.{lastRoundBy}
-use Rattle.aes_words.proofs.WordBytes.{state-of, xor-words, xor-key-words}
+use Rattle.aes_words.proofs.WordBytes.{state-of, xor-key-words}
 use Rattle.aes.proofs.last_round.Statement.{statement}
 use Rattle.aes.proofs.last_round.Tie as tie
 
 returns : tie.Need-returns
 unfolding lastRoundBy wordsBytes wordBytes
 returns c =
-    let last-column = c .before .before .before .before .before .before .last-column in
-    let last-column2 = c .before .before .before .before .before .last-column2 in
-    let last-column3 = c .before .before .before .before .last-column3 in
-    let last-column4 = c .before .before .before .last-column4 in
+    let at4 = c .before .before .before in
+    let at3 = at4 .before in
+    let at2 = at3 .before in
+    let at1 = at2 .before in
     c .unwords .ensures
     ∙ c .before .xor-words .ensures
-    ∙ ap₂ xorBlock (state-of _ _ _ _ (last-column .ensures) (last-column2 .ensures) (last-column3 .ensures) (last-column4 .ensures)) (ap joined (c .before .before .words .ensures))
+    ∙ ap₂ xorBlock (state-of _ _ _ _ (at1 .last-column .ensures) (at2 .last-column2 .ensures) (at3 .last-column3 .ensures) (at4 .last-column4 .ensures)) (ap joined (c .before .before .words .ensures))
     ∙ xor-key-words _ _
 
 pub last-round-spec : {M : Type 1} → statement M
