@@ -36,13 +36,9 @@ pub record Asked (layout : Layout) (itinerary : List ℕ) (holds : ℕ → Bool)
 
 module _ {layout : Layout} {itinerary : List ℕ} {holds : ℕ → Bool} {limit first left index : ℕ}
     (asked : Asked layout itinerary holds limit first left index) where
-  pub asked-end : index ≡ 0 → true ≡ every holds (chainWithin layout itinerary limit first)
+  pub asked-over : chainWithin layout itinerary left index ≡ [] → true ≡ every holds (chainWithin layout itinerary limit first)
   unfolding every
-  asked-end e = sym (asked .rest ∙ rw (chain-end layout itinerary left index e))
-
-  pub asked-out : left ≡ 0 → true ≡ every holds (chainWithin layout itinerary limit first)
-  unfolding every
-  asked-out e = sym (asked .rest ∙ rw (chain-out layout itinerary left index e))
+  asked-over e = sym (asked .rest ∙ rw e)
 
   pub asked-no : 0 < left → (index ≡ 0 → ⊥) → holds index ≡ false → false ≡ every holds (chainWithin layout itinerary limit first)
   unfolding every
@@ -69,15 +65,8 @@ pub record Counted (layout : Layout) (itinerary : List ℕ) (limit first left in
 
 module _ {layout : Layout} {itinerary : List ℕ} {limit first left index : ℕ}
     (counted : Counted layout itinerary limit first left index) where
-  pub counted-end : index ≡ 0 → length (chainWithin layout itinerary limit first) + left ≡ limit
-  counted-end e =
-      let none : length (chainWithin layout itinerary left index) ≡ 0 = rw (chain-end layout itinerary left index e) in
-      omega (arith, counted .rest)
-
-  pub counted-out : left ≡ 0 → length (chainWithin layout itinerary limit first) ≡ limit
-  counted-out e =
-      let none : length (chainWithin layout itinerary left index) ≡ 0 = rw (chain-out layout itinerary left index e) in
-      omega (arith, counted .rest)
+  pub counted-over : chainWithin layout itinerary left index ≡ [] → length (chainWithin layout itinerary limit first) + left ≡ limit
+  counted-over e = let none : length (chainWithin layout itinerary left index) ≡ 0 = rw e in omega (arith, counted .rest)
 
   pub counted-on : {next : ℕ} → 0 < left → (index ≡ 0 → ⊥) → next ≡ nextOf layout itinerary index
       → Counted layout itinerary limit first (left - 1) next

@@ -131,13 +131,10 @@ merged-start layout itinerary stationLimit tableLimit rises e d = record { rest 
 
 module _ {layout : Layout} {itinerary chained : List ℕ} {tableLimit first stationsLeft station left index : ℕ}
     (merged : Merged layout itinerary chained tableLimit first stationsLeft station left index) where
-  pub merged-end : index ≡ 0 → true ≡ every (interfaceSound layout itinerary chained) (chainWithin layout itinerary tableLimit first)
+  pub merged-over : chainWithin layout itinerary left index ≡ []
+      → true ≡ every (interfaceSound layout itinerary chained) (chainWithin layout itinerary tableLimit first)
   unfolding every
-  merged-end e = sym (merged .rest ∙ rw (chain-end layout itinerary left index e))
-
-  pub merged-out : left ≡ 0 → true ≡ every (interfaceSound layout itinerary chained) (chainWithin layout itinerary tableLimit first)
-  unfolding every
-  merged-out e = sym (merged .rest ∙ rw (chain-out layout itinerary left index e))
+  merged-over e = sym (merged .rest ∙ rw e)
 
   module _ (more : 0 < left) (here : index ≡ 0 → ⊥) where
     merged-no : asks layout itinerary (chainWithin layout itinerary stationsLeft station) index ≡ false
@@ -184,13 +181,10 @@ pub record Skipped (layout : Layout) (itinerary : List ℕ) (bound limit first l
 
 module _ {layout : Layout} {itinerary : List ℕ} {bound limit first left station : ℕ}
     (skipped : Skipped layout itinerary bound limit first left station) where
-  pub skipped-end : station ≡ 0 → chainWithin layout itinerary left station ≡ dropBelow bound (chainWithin layout itinerary limit first)
+  pub skipped-over : chainWithin layout itinerary left station ≡ []
+      → chainWithin layout itinerary left station ≡ dropBelow bound (chainWithin layout itinerary limit first)
   unfolding dropBelow
-  skipped-end e = sym (skipped .rest ∙ rw (chain-end layout itinerary left station e))
-
-  pub skipped-out : left ≡ 0 → chainWithin layout itinerary left station ≡ dropBelow bound (chainWithin layout itinerary limit first)
-  unfolding dropBelow
-  skipped-out e = sym (skipped .rest ∙ rw (chain-out layout itinerary left station e))
+  skipped-over e = sym (skipped .rest ∙ rw e)
 
   module _ (more : 0 < left) (here : station ≡ 0 → ⊥) where
     pub skipped-here : bound ≤ station

@@ -3,7 +3,7 @@
 -- Assumes nothing.
 use mathlib.Core.Path.{_≡_, refl, sym, _∙_}
 use mathlib.Core.Bool.{Bool, true, false, _&&_, and-false}
-use mathlib.Core.List.{List, map}
+use mathlib.Core.List.{List, [], map}
 use Prim.Native.Nat.{ℕ, suc, _+_, _-_, _≤_, _<_}
 use native.Mathlib.Omega.{arith}
 use borrow.Author.Tests.{eq-eqb, ne-eqb, lt-ltb, le-ltb, le-leb, lt-leb}
@@ -15,7 +15,7 @@ use Rattle.interface_table.specs.declared.Listed.the-variants.{State, Nothing}
 use Rattle.interface_table.proofs.Entries.{entriesSound, sound-by-entries}
 use Rattle.records.specs.Layout.{Layout}
 use Rattle.records.specs.Records.{nextOf, interfaceNumberOf, interfaceStateOf, chainWithin}
-use Rattle.records.proofs.Walks.{chain-end, chain-out, chain-on, Counted, counted-end, counted-out, counted-on}
+use Rattle.records.proofs.Walks.{chain-end, chain-out, chain-on, Counted, counted-over, counted-on}
 
 -- ---- a station is sought by its place: so many were passed
 
@@ -25,11 +25,8 @@ pub record Passed (layout : Layout) (itinerary : List ℕ) (place limit first pa
 
 module _ {layout : Layout} {itinerary : List ℕ} {place limit first passed left index : ℕ}
     (walked : Passed layout itinerary place limit first passed left index) where
-  pub passed-end : index ≡ 0 → 0 ≡ getD (chainWithin layout itinerary limit first) place 0
-  passed-end e = sym (walked .rest ∙ rw (chain-end layout itinerary left index e))
-
-  pub passed-out : left ≡ 0 → 0 ≡ getD (chainWithin layout itinerary limit first) place 0
-  passed-out e = sym (walked .rest ∙ rw (chain-out layout itinerary left index e))
+  pub passed-over : chainWithin layout itinerary left index ≡ [] → 0 ≡ getD (chainWithin layout itinerary limit first) place 0
+  passed-over e = sym (walked .rest ∙ rw e)
 
   pub passed-here : 0 < left → (index ≡ 0 → ⊥) → passed ≡ place → index ≡ getD (chainWithin layout itinerary limit first) place 0
   passed-here h n e =
@@ -56,13 +53,10 @@ pub record Sought (layout : Layout) (itinerary : List ℕ) (wanted limit first l
 
 module _ {layout : Layout} {itinerary : List ℕ} {wanted limit first left index : ℕ}
     (sought : Sought layout itinerary wanted limit first left index) where
-  pub sought-end : index ≡ 0 → Nothing ≡ listed layout itinerary (chainWithin layout itinerary limit first) wanted
+  pub sought-over : chainWithin layout itinerary left index ≡ []
+      → Nothing ≡ listed layout itinerary (chainWithin layout itinerary limit first) wanted
   unfolding stateOf
-  sought-end e = sym (sought .rest ∙ rw (chain-end layout itinerary left index e))
-
-  pub sought-out : left ≡ 0 → Nothing ≡ listed layout itinerary (chainWithin layout itinerary limit first) wanted
-  unfolding stateOf
-  sought-out e = sym (sought .rest ∙ rw (chain-out layout itinerary left index e))
+  sought-over e = sym (sought .rest ∙ rw e)
 
   pub sought-here : 0 < left → (index ≡ 0 → ⊥) → interfaceNumberOf layout itinerary index ≡ wanted
       → State (interfaceStateOf layout itinerary index) ≡ listed layout itinerary (chainWithin layout itinerary limit first) wanted
@@ -111,12 +105,12 @@ module _ {layout : Layout} {itinerary : List ℕ} {first lowest left index : ℕ
   pub entered-end : 0 < left → index ≡ 0 → true ≡ soundTable layout itinerary (chainWithin layout itinerary 257 first)
   unfolding entriesSound
   entered-end h e =
-      let few : length (chainWithin layout itinerary 257 first) ≤ 256 = omega (arith, counted-end (entered .counted) e) in
+      let few : length (chainWithin layout itinerary 257 first) ≤ 256 = omega (arith, counted-over (entered .counted) (chain-end layout itinerary left index e)) in
       sym (by-entries ∙ rw (le-leb _ 256 few, chain-end layout itinerary left index e))
 
   pub entered-out : left ≡ 0 → false ≡ soundTable layout itinerary (chainWithin layout itinerary 257 first)
   entered-out e =
-      let many : 256 < length (chainWithin layout itinerary 257 first) = omega (arith, counted-out (entered .counted) e) in
+      let many : 256 < length (chainWithin layout itinerary 257 first) = omega (arith, counted-over (entered .counted) (chain-out layout itinerary left index e)) in
       sym (by-entries ∙ rw (lt-leb _ 256 many))
 
   module _ (more : 0 < left) (here : index ≡ 0 → ⊥) where

@@ -4,7 +4,7 @@ use Rattle.records.specs.Layout.{layoutOf}
 use Rattle.records.specs.Records.{firstStation}
 use Rattle.records.specs.Inner.{tableRecordsWithin}
 use Rattle.itinerary.proofs.Stations.{hasSoundTable, tables-by-records}
-use Rattle.records.proofs.Walks.{Asked, asked-end, asked-out, answered-no, answered-yes}
+use Rattle.records.proofs.Walks.{chain-end, chain-out, Asked, asked-over, answered-no, answered-yes}
 use Rattle.itinerary.proofs.are_tables_sound.Statement.{statement}
 use Rattle.itinerary.proofs.are_tables_sound.Tie as tie
 
@@ -36,11 +36,11 @@ are-tables-sound-spec =
     μ-loop
     (λ c κs. search needs)
     (λ c. record { rest = rw (← c .next .ensures) })
-    (λ c. rw (tables-by-records _) (asked-end (c .before .before .loop .inv) (c .if1 .taken)))
+    (λ c. rw (tables-by-records _) (asked-over (c .before .before .loop .inv) (chain-end _ _ _ _ (c .if1 .taken))))
     (λ c κs. search needs)
     returns-2
     (λ c κs. search needs)
     (λ c. search needs)
     (λ c. search needs)
     loop-again
-    (λ c. rw (tables-by-records _) (asked-out (c .before .loop .inv) (omega arith))))
+    (λ c. rw (tables-by-records _) (asked-over (c .before .loop .inv) (chain-out _ _ _ _ (omega arith)))))

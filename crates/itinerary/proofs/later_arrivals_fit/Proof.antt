@@ -6,7 +6,7 @@ use lib.Dec.{eqb}
 use borrow.Author.Tests.{eq-eqb, ne-eqb}
 use Rattle.records.specs.Layout.{layoutOf}
 use Rattle.records.specs.Records.{arrivalOf}
-use Rattle.records.proofs.Walks.{Asked, asked-end, asked-out, asked-no, asked-yes}
+use Rattle.records.proofs.Walks.{chain-end, chain-out, Asked, asked-over, asked-no, asked-yes}
 use Rattle.itinerary.proofs.later_arrivals_fit.Statement.{statement}
 use Rattle.itinerary.proofs.later_arrivals_fit.Tie as tie
 
@@ -35,11 +35,11 @@ later-arrivals-fit-spec =
     Inv-loop
     μ-loop
     (λ c. record { rest = refl })
-    (λ c. asked-end (c .before .before .loop .inv) (c .if1 .taken))
+    (λ c. asked-over (c .before .before .loop .inv) (chain-end _ _ _ _ (c .if1 .taken)))
     (λ c κs. search needs)
     returns-2
     (λ c κs. search needs)
     (λ c. search needs)
     (λ c. search needs)
     loop-again
-    (λ c. asked-out (c .before .loop .inv) (omega arith)))
+    (λ c. asked-over (c .before .loop .inv) (chain-out _ _ _ _ (omega arith))))

@@ -1,10 +1,9 @@
 use borrow.Author.Needs.{needs}
 use Prim.Native.Nat.{_≤_}
-use mathlib.Core.Path.{sym}
 use native.Mathlib.Omega.{arith}
 use Rattle.records.specs.Layout.{layoutOf}
 use Rattle.records.specs.Records.{firstStation}
-use Rattle.records.proofs.Walks.{Counted, counted-end, counted-out, counted-on}
+use Rattle.records.proofs.Walks.{chain-end, chain-out, Counted, counted-over, counted-on}
 use Rattle.itinerary.proofs.station_count.Statement.{statement}
 use Rattle.itinerary.proofs.station_count.Tie as tie
 
@@ -28,9 +27,9 @@ station-count-spec =
     (λ c κs. search needs)
     (λ c. (search needs, record { rest = rw (← c .next .ensures) (omega arith) }))
     (λ c. search needs)
-    (λ c. let e = counted-end (c .before .before .loop .inv .1) (c .if1 .taken) in omega arith)
+    (λ c. let e = counted-over (c .before .before .loop .inv .1) (chain-end _ _ _ _ (c .if1 .taken)) in omega arith)
     (λ c κs. search needs)
     (λ c. search needs)
     (λ c. search needs)
     loop-again
-    (λ c. sym (counted-out (c .before .loop .inv .1) (omega arith))))
+    (λ c. let e = counted-over (c .before .loop .inv .1) (chain-out _ _ _ _ (omega arith)) in omega arith))

@@ -4,7 +4,8 @@ use borrow.Author.Tests.{not-true, not-false}
 use Rattle.records.specs.Layout.{layoutOf}
 use Rattle.records.specs.Records.{firstInterfaceOf}
 use Rattle.records.specs.Inner.{stationRecordsWithin}
-use Rattle.soundness.proofs.Merge.{Merged, merged-start, merged-end, merged-out, merged-unsound, merged-found, merged-on, merged-skip}
+use Rattle.records.proofs.Walks.{chain-end, chain-out}
+use Rattle.soundness.proofs.Merge.{Merged, merged-start, merged-over, merged-unsound, merged-found, merged-on, merged-skip}
 use Rattle.soundness.proofs.are_interfaces_sound.Statement.{statement}
 use Rattle.soundness.proofs.are_interfaces_sound.Tie as tie
 
@@ -59,7 +60,7 @@ are-interfaces-sound-spec =
     (λ c κs. search needs)
     (λ c κs. search needs)
     loop-holds
-    (λ c. merged-end (c .before .before .loop .inv) (c .if1 .taken))
+    (λ c. merged-over (c .before .before .loop .inv) (chain-end _ _ _ _ (c .if1 .taken)))
     (λ c κs. search needs)
     (λ c κs. search needs)
     returns-2
@@ -69,4 +70,4 @@ are-interfaces-sound-spec =
     (λ c. search needs)
     (λ c. search needs)
     loop-again
-    (λ c. merged-out (c .before .loop .inv) (omega arith)))
+    (λ c. merged-over (c .before .loop .inv) (chain-out _ _ _ _ (omega arith))))

@@ -3,7 +3,7 @@ use native.Mathlib.Omega.{arith}
 use Rattle.records.specs.Layout.{layoutOf}
 use Rattle.records.specs.Records.{firstStation}
 use Rattle.record_rules.specs.Rules.{nextSound}
-use Rattle.records.proofs.Walks.{Asked, asked-end, asked-out, answered-no, answered-yes}
+use Rattle.records.proofs.Walks.{chain-end, chain-out, Asked, asked-over, answered-no, answered-yes}
 use Rattle.soundness.proofs.are_station_nexts_sound.Statement.{statement}
 use Rattle.soundness.proofs.are_station_nexts_sound.Tie as tie
 
@@ -34,11 +34,11 @@ are-station-nexts-sound-spec =
     μ-loop
     (λ c κs. search needs)
     (λ c. record { rest = rw (← c .next .ensures) })
-    (λ c. asked-end (c .before .before .loop .inv) (c .if1 .taken))
+    (λ c. asked-over (c .before .before .loop .inv) (chain-end _ _ _ _ (c .if1 .taken)))
     (λ c κs. search needs)
     returns-2
     (λ c κs. search needs)
     (λ c. search needs)
     (λ c. search needs)
     loop-again
-    (λ c. asked-out (c .before .loop .inv) (omega arith)))
+    (λ c. asked-over (c .before .loop .inv) (chain-out _ _ _ _ (omega arith))))

@@ -7,7 +7,7 @@ use Rattle.records.specs.Records.{firstStation}
 use Rattle.soundness.specs.Soundness.{stationSound}
 use Rattle.records.specs.Inner.{stationRecordsWithin, tableRecordsWithin}
 use Rattle.soundness.proofs.Merge.{nexts-unsound}
-use Rattle.records.proofs.Walks.{Asked, asked-end, asked-out, answered-no, answered-yes}
+use Rattle.records.proofs.Walks.{chain-end, chain-out, Asked, asked-over, answered-no, answered-yes}
 use Rattle.soundness.proofs.are_stations_sound.Statement.{statement}
 use Rattle.soundness.proofs.are_stations_sound.Tie as tie
 
@@ -51,11 +51,11 @@ are-stations-sound-spec =
     returns
     (λ c κs. search needs)
     (λ c. record { rest = rw (← c .next .ensures) })
-    (λ c. asked-end (c .before .before .loop .inv) (c .if2 .taken))
+    (λ c. asked-over (c .before .before .loop .inv) (chain-end _ _ _ _ (c .if2 .taken)))
     is-station-sound-requires
     returns-3
     (λ c κs. search needs)
     (λ c. search needs)
     (λ c. search needs)
     loop-again
-    (λ c. asked-out (c .before .loop .inv) (omega arith)))
+    (λ c. asked-over (c .before .loop .inv) (chain-out _ _ _ _ (omega arith))))

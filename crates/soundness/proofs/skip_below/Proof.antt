@@ -2,7 +2,8 @@ use borrow.Author.Needs.{needs}
 use mathlib.Core.Path.{refl}
 use native.Mathlib.Omega.{arith}
 use Rattle.records.specs.Layout.{layoutOf}
-use Rattle.soundness.proofs.Merge.{Skipped, skipped-end, skipped-out, skipped-here, skipped-on}
+use Rattle.records.proofs.Walks.{chain-end, chain-out}
+use Rattle.soundness.proofs.Merge.{Skipped, skipped-over, skipped-here, skipped-on}
 use Rattle.soundness.proofs.skip_below.Statement.{statement}
 use Rattle.soundness.proofs.skip_below.Tie as tie
 
@@ -27,10 +28,10 @@ skip-below-spec =
     Inv-loop
     μ-loop
     (λ c. record { rest = refl })
-    (λ c. (skipped-end (c .before .before .loop .inv) (c .if1 .taken), λ more here. absurd (here (c .if1 .taken))))
+    (λ c. (skipped-over (c .before .before .loop .inv) (chain-end _ _ _ _ (c .if1 .taken)), λ more here. absurd (here (c .if1 .taken))))
     returns-2
     (λ c κs. search needs)
     (λ c. search needs)
     (λ c. search needs)
     loop-again
-    (λ c. (skipped-out (c .before .loop .inv) (omega arith), λ more here. absurd (omega arith))))
+    (λ c. (skipped-over (c .before .loop .inv) (chain-out _ _ _ _ (omega arith)), λ more here. absurd (omega arith))))

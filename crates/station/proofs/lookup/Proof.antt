@@ -4,7 +4,8 @@ use native.Mathlib.Omega.{arith}
 use Rattle.records.specs.Layout.{layoutOf}
 use Rattle.records.specs.Records.{recordCount, firstInterfaceOf}
 use Rattle.station.specs.Station.{stationWith}
-use Rattle.station.proofs.Walks.{Sought, sought-end, sought-out, sought-here, sought-on}
+use Rattle.records.proofs.Walks.{chain-end, chain-out}
+use Rattle.station.proofs.Walks.{Sought, sought-over, sought-here, sought-on}
 use Rattle.station.proofs.lookup.Statement.{statement}
 use Rattle.station.proofs.lookup.Tie as tie
 
@@ -18,7 +19,7 @@ abbrev μ-loop : tie.MeasureT-loop
 
 returns : tie.Need-returns Inv-loop μ-loop
 unfolding stationWith
-returns c = sought-end (c .before .before .loop .inv) (c .if1 .taken)
+returns c = sought-over (c .before .before .loop .inv) (chain-end _ _ _ _ (c .if1 .taken))
 
 returns-2 : tie.Need-returns-2 Inv-loop μ-loop
 unfolding stationWith
@@ -35,7 +36,7 @@ loop-again c =
 
 returns-3 : tie.Need-returns-3 Inv-loop μ-loop
 unfolding stationWith
-returns-3 c = sought-out (c .before .loop .inv) (omega arith)
+returns-3 c = sought-over (c .before .loop .inv) (chain-out _ _ _ _ (omega arith))
 
 pub lookup-spec : {M : Type 1} → statement M
 lookup-spec =

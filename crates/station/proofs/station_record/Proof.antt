@@ -4,7 +4,8 @@ use mathlib.Core.Path.{_≡_}
 use native.Mathlib.Omega.{arith}
 use Rattle.records.specs.Layout.{layoutOf}
 use Rattle.records.specs.Records.{recordCount, firstStation}
-use Rattle.station.proofs.Walks.{Passed, passed-end, passed-out, passed-here, passed-on}
+use Rattle.records.proofs.Walks.{chain-end, chain-out}
+use Rattle.station.proofs.Walks.{Passed, passed-over, passed-here, passed-on}
 use Rattle.station.proofs.station_record.Statement.{statement}
 use Rattle.station.proofs.station_record.Tie as tie
 
@@ -35,11 +36,11 @@ station-record-spec =
     (λ c κs. search needs)
     (λ c κs. search needs)
     loop-holds
-    (λ c. passed-end (c .before .before .loop .inv) (c .if1 .taken))
+    (λ c. passed-over (c .before .before .loop .inv) (chain-end _ _ _ _ (c .if1 .taken)))
     (λ c. passed-here (c .before .before .before .loop .inv) (search needs) (c .before .if1 .left) (c .if2 .taken))
     (λ c κs. search needs)
     (λ c. search needs)
     (λ c. search needs)
     (λ c. search needs)
     loop-again
-    (λ c. passed-out (c .before .loop .inv) (omega arith)))
+    (λ c. passed-over (c .before .loop .inv) (chain-out _ _ _ _ (omega arith))))
