@@ -21,7 +21,6 @@ mod print;
 mod words;
 
 use calls::Given;
-use libc::STDIN_FILENO;
 ghost use Prim.Native.Nat.{_≤_};
 
 // Where in the memory each of these stands.
@@ -213,28 +212,27 @@ fn run_line(line: &[u8], memory: &mut [u8], sizes: Sizes) -> Sizes {
     sizes
 }
 
-fn run(script: &[u8], memory: &mut [u8]) {
+// At an empty line, or where stdin ends, it's over.
+fn run(line: &mut [u8], memory: &mut [u8]) {
     let mut sizes = Sizes {
         path: 0,
         itinerary: 0,
         numbers: 0,
         states: 0,
     };
-    let mut at: usize = 0;
-    while at < script.len() {
-        let end = words::line_end(script, at);
-        let line = &script[at..end];
-        let after = run_line(line, memory, sizes);
-        sizes = after;
-        if end == script.len() {
+    let mut count: u32 = 0;
+    while count < 1000000 {
+        let size = words::read_line(line);
+        if size == 0 {
             return;
         }
-        at = end + 1;
+        let after = run_line(&line[0..size], memory, sizes);
+        sizes = after;
+        count += 1;
     }
 }
 
 fn main() {
-    let mut script = [0u8; 524288];
-    let size = io::read_full(STDIN_FILENO, &mut script);
-    run(&script[..size], &mut [0u8; 69664]);
+    let mut line = io::buffer();
+    run(&mut line, &mut [0u8; 69664]);
 }

@@ -1,19 +1,30 @@
 // The lines of a script, and the words of a line, which single spaces set apart: numbers in decimal, bytes in hex.
+use libc::STDIN_FILENO;
 use octets::byte_at;
 ghost use Prim.Native.Nat.{_≤_};
 ghost use lib.ListN.{length};
 
-// Where the line that starts there ends.
-pub(crate) fn line_end(script: &[u8], start: usize) -> usize
-    requires { ⌜ start ≤ length (now script) ⌝ }
-    ensures after { λ r. ⌜ start ≤ r ⌝ }
-    ensures inside { λ r. ⌜ r ≤ length (now (script .entry)) ⌝ }
+// A line's end where stdin is at its own.
+fn read_byte() -> u8 {
+    let mut byte = [0u8; 1];
+    let count = io::read_full(STDIN_FILENO, &mut byte);
+    if count == 0 {
+        return b'\n';
+    }
+    byte[0]
+}
+
+// Reads a line, as much of it as there is room for, without its end; how many bytes it has.
+pub(crate) fn read_line(line: &mut [u8]) -> usize
+    ensures { λ r. ⌜ r ≤ length (now (line .exit)) ⌝ }
 {
-    let mut at = start;
-    while at < script.len() {
-        if script[at] == b'\n' {
+    let mut at: usize = 0;
+    while at < line.len() {
+        let byte = read_byte();
+        if byte == b'\n' {
             return at;
         }
+        line[at] = byte;
         at += 1;
     }
     at
