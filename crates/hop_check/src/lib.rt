@@ -1,7 +1,7 @@
 // What is asked of a hop at its station: expiry, MAC, the interface that it arrives by and the one that it leaves by.
 use interface_table::Listed;
-use itinerary::station::lookup;
 use records::form::Form;
+use station::lookup;
 use validator::expected_mac;
 use validator::mac_number;
 ghost use mathlib.Core.Path.{_≡_};

@@ -1,9 +1,9 @@
 // The lengths of a path, and the stations that its segments start at.
 use edition::Edition;
-use itinerary::station::station_record;
 use records::form::Form;
 use segment_check::hops::segment_start;
 use standard_path::view;
+use station::station_record;
 ghost use mathlib.Core.Path.{_≡_};
 ghost use Rattle.standard_path.specs.Meta.{seg0Len, seg1Len, seg2Len};
 ghost use Rattle.records.specs.Layout.{layoutOf};

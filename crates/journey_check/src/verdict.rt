@@ -1,7 +1,6 @@
 // The journey check: 01's questions 2 to 4 and 23 to 25, then the conditions of a pass.
 use crate::segments;
 use edition::Edition;
-use itinerary::station;
 use joint_check::joints_fit;
 use journey::answer::JourneyError;
 use journey::answer::Verdict;
@@ -70,7 +69,7 @@ fn itinerary_fits(
     ensures { λ r. ⌜ r ≡
         (itineraryFits (layoutOf form) (now (itinerary .entry)) (stationCount edition (now (path .entry))) && leb earliest latest) ⌝ }
 {
-    station::fits(form, itinerary, station_count(edition, path)) & (earliest <= latest)
+    itinerary::fits(form, itinerary, station_count(edition, path)) & (earliest <= latest)
 }
 
 fn is_at_start(path: &[u8]) -> bool
