@@ -24,15 +24,15 @@ asked path hop = sym (header-asked (afterHeader (indexReply hop (segmentIndex pa
 returns : tie.Need-returns
 returns c =
     let checked = c .before .before in
-    let start = checked .before .before .before in
-    rw (asked (now (start .args .path)) (start .args .«hop_idx»), sym (checked .before .check-header .ensures) ∙ checked .enum-told .given .1)
+    let start = checked .before .before .before .before in
+    rw (asked (now (start .args .path)) (start .args .hop-idx), sym (checked .before .before .check-header .ensures) ∙ checked .enum-told .given .1)
     (c .index-reply .ensures ∙ ap (indexReply _) (c .before .calculate-segment-index .ensures))
 
 returns-2 : tie.Need-returns-2
 returns-2 c =
     let checked = c .before .before .before in
-    let start = checked .before .before .before in
-    rw (asked (now (start .args .path)) (start .args .«hop_idx»), sym (checked .before .check-header .ensures) ∙ checked .error .given .1)
+    let start = checked .before .before .before .before in
+    rw (asked (now (start .args .path)) (start .args .hop-idx), sym (checked .before .before .check-header .ensures) ∙ checked .error .given .1)
     (c .number-reply .ensures ∙ rw (c .before .header-number .ensures))
 
 pub segment-reply-spec : {M : Type 1} → statement M
