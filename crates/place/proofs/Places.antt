@@ -2,23 +2,24 @@
 -- Assumes nothing.
 use mathlib.Core.Path.{_≡_, refl, sym, _∙_}
 use mathlib.Core.Bool.{Bool, true, false, not, _&&_, _||_, cond}
-use mathlib.Core.List.{List, _++_}
+use mathlib.Core.List.{List, _∷_, _++_}
 use Prim.Native.Nat.{ℕ, _+_}
 use native.Mathlib.Omega.{arith}
 use borrow.Author.Tests.{not-true, not-false}
 use lib.Dec.{eqb, ltb}
 use Rattle.questions.specs.Questions.{asks, within}
 use Rattle.questions.proofs.Asked.{asks-within}
-use Rattle.standard_path.specs.Meta.{seg0Len, seg1Len, seg2Len}
-use Rattle.standard_path.specs.Header.{hops, headerQuestions, headerCheck, segmentOf, segmentStart, segmentEnd, segmentAmong, segmentIndex}
+use Rattle.standard_path.specs.Meta.{currInf, seg0Len, seg1Len, seg2Len}
+use Rattle.standard_path.specs.Header.{infos, hops, headerQuestions, headerCheck, segmentOf, segmentStart, segmentEnd, segmentAmong, segmentIndex}
 use Rattle.standard_path.specs.declared.view.HeaderCheck.{HeaderCheck}
 use Rattle.standard_path.specs.declared.view.HeaderCheck.the-variants.{Complete, Failed}
 use Rattle.standard_path.proofs.HeaderAsked.{header-asked}
 use Rattle.standard_path.specs.declared.view.SegmentIndex.{SegmentIndex}
 use Rattle.standard_path.specs.declared.view.SegmentIndex.the-variants.{At, OutOfBounds}
-use Rattle.answers.specs.Questions.{firstNo}
+use Rattle.answers.specs.Questions.{Questions, firstNo}
 use Rattle.answers.proofs.Asked.{same-append}
-use Rattle.answers.specs.declared.StandardRoutingError.the-variants.{HeaderFailed}
+use Rattle.answers.specs.declared.AdvanceError.the-variants.{InfoOutOfBounds, InvalidSegmentIndex}
+use Rattle.answers.specs.declared.StandardRoutingError.the-variants.{HeaderFailed, AdvanceFailed}
 use Rattle.answers.specs.declared.Validation.{Validation}
 use Rattle.answers.specs.declared.Validation.the-variants.{Valid, Invalid}
 use Rattle.answers.specs.declared.StandardRoutingError.{StandardRoutingError}
@@ -28,6 +29,10 @@ use Rattle.edition.specs.declared.Edition.the-variants.{First, Second}
 use Rattle.edition.specs.Edition.{peeringFits, peeringQuestions}
 use Rattle.place.specs.Place.{crosses, placeQuestions, wayQuestions, egressPlace}
 use Rattle.place.specs.Inner.{located, onwardBy, egressPlaceBy}
+
+-- the place in the code where a need is asked
+abbrev pub Where : {A : Type 0} {B : A → Type 0} → ((c : A) → B c) → Type 0
+Where {A} {B} need = A
 
 abbrev pub asValidation : HeaderCheck → Validation
 asValidation Complete = Valid
@@ -75,6 +80,14 @@ module _ {path : List ℕ} {h index : ℕ} {start end : Bool} (l : Lies path h i
 
   pub alone-no : (peeringPath : Bool) → not (peeringPath || not (start && end)) ≡ true → (peeringPath || not (start && end)) ≡ false
   alone-no peeringPath e = not-true (peeringPath || not (start && end)) e
+
+-- the questions from 7 on, of a hop in this segment, by whether it makes a segment change
+abbrev pub from7 : Edition → List ℕ → ℕ → Bool → Questions
+from7 edition path index change =
+    (eqb index (currInf path), AdvanceFailed (InvalidSegmentIndex index (currInf path)))
+    ∷ (ltb (currInf path) (infos path), AdvanceFailed (InfoOutOfBounds (currInf path)))
+    ∷ (not change || ltb (index + 1) (infos path), AdvanceFailed (InfoOutOfBounds (index + 1)))
+    ∷ peeringQuestions edition path
 
 -- where the path was found to stand
 pub record Stands (asked : Validation) (change last here final : Bool) : Type 0 where
