@@ -132,6 +132,8 @@ upDown high low nextHigh nextLow =
     ∷ 0x00 ∷ 0x00 ∷ 0x00 ∷ 0x03 ∷ 0x00 ∷ 0x00 ∷ 0x82 ∷ 0x1f ∷ 0x02 ∷ 0xe2 ∷ 0x2e ∷ 0xc3
     ∷ []
 
+-- ---- the paths of b, c, h, i, j; of k and l, the same hops, two against construction and three in it; of the segment change
+
 abbrev path-b : ℕ → List ℕ
 path-b more = 0x00 ∷ 0x00 ∷ 0x20 ∷ 0x02 ∷ replicate more 0
 
@@ -155,7 +157,7 @@ abbrev info-of : ℕ → ℕ → ℕ → List ℕ
 info-of flags high low = flags ∷ 0x00 ∷ high ∷ low ∷ 0x00 ∷ 0x00 ∷ 0x03 ∷ 0xe8 ∷ []
 
 abbrev hop-of : ℕ → ℕ → List ℕ → List ℕ
-hop-of ingress egress mac = 0x00 ∷ 0x00 ∷ 0x00 ∷ ingress ∷ 0x00 ∷ egress ∷ mac
+hop-of into out mac = 0x00 ∷ 0x00 ∷ 0x00 ∷ into ∷ 0x00 ∷ out ∷ mac
 
 abbrev up-0 : List ℕ
 up-0 = hop-of 3 0 (0xd7 ∷ 0x6a ∷ 0x69 ∷ 0x73 ∷ 0xd3 ∷ 0xd5 ∷ [])
@@ -188,20 +190,22 @@ unfolding check setCurrHf setCurrInf segments segmentCount setLengths swapLength
 turned path = reverseBytes path
 
 abbrev changing : ℕ → List ℕ → List ℕ
-changing first fields = first ∷ 0x00 ∷ 0x20 ∷ 0x80 ∷ fields
+changing first rest = first ∷ 0x00 ∷ 0x20 ∷ 0x80 ∷ rest
 
 -- ---- a journey of two stations, each with the same key
 
 -- a station's record: its next, its arrival interface, its first interface record; and an interface's: its number and its state
-abbrev station : ℕ → ℕ → ℕ → List ℕ
-station next arrival interfaces = 0x00 ∷ next ∷ 0x00 ∷ arrival ∷ 0x00 ∷ interfaces ∷ 0x00 ∷ 0x00 ∷ (key ++ replicate 8 0)
+abbrev station-record : ℕ → ℕ → ℕ → List ℕ
+station-record next arrival interfaces = 0x00 ∷ next ∷ 0x00 ∷ arrival ∷ 0x00 ∷ interfaces ∷ 0x00 ∷ 0x00 ∷ (key ++ replicate 8 0)
 
-abbrev interface : ℕ → ℕ → List ℕ
-interface number state = 0x00 ∷ 0x00 ∷ 0x00 ∷ number ∷ state ∷ replicate 27 0
+abbrev interface-record : ℕ → ℕ → List ℕ
+interface-record number state = 0x00 ∷ 0x00 ∷ 0x00 ∷ number ∷ state ∷ replicate 27 0
 
 -- from an AS with a child at 1, down to one with a parent at 3, both links up
 abbrev plan : List ℕ
-plan = 0x00 ∷ 0x01 ∷ (replicate 30 0 ++ (station 0x02 0x00 0x03 ++ (station 0x00 0x03 0x04 ++ (interface 0x01 0x06 ++ interface 0x03 0x05))))
+plan =
+    0x00 ∷ 0x01 ∷ (replicate 30 0
+    ++ (station-record 0x02 0x00 0x03 ++ (station-record 0x00 0x03 0x04 ++ (interface-record 0x01 0x06 ++ interface-record 0x03 0x05))))
 
 -- (2,0,0) in construction direction, with the last byte of the last MAC
 abbrev two-hops : ℕ → List ℕ
