@@ -28,7 +28,8 @@ use Rattle.journey.specs.Check.{shared, noStation, stationOf, segmentPasses, jo
 use Rattle.journey.proofs.Lengths.{Shape, all-long, station-among, start-enough, fit-shape}
 use Rattle.journey.proofs.Facts.{shared-linked}
 use Rattle.journey.proofs.LetThrough.{infos-few}
-use Rattle.journey_check.specs.Inner.{firstRecord, firstRecords, Matched}
+use Rattle.journey_questions.specs.Inner.{firstRecord, firstRecords}
+use Rattle.journey_check.specs.Inner.{Matched}
 
 module _ (layout : Layout) (itinerary : List ℕ) where
   abbrev pub records : List ℕ

@@ -19,8 +19,7 @@ use Rattle.journey.specs.declared.answer.Verdict.{Verdict}
 use Rattle.journey.specs.declared.answer.Verdict.the-variants.{Passed, NotPassed, Refused}
 use Rattle.journey.specs.Check.{passes}
 use Rattle.journey.specs.Questions.{questions}
-use Rattle.journey.specs.Verdict.{journeyCheck}
-use Rattle.journey.specs.Verdict.{Demand3}
+use Rattle.journey.specs.Verdict.{journeyCheck, Demand3}
 use Rattle.journey.proofs.Demand3.{demand-3}
 
 abbrev pub orRefused : HeaderCheck → Verdict → Verdict

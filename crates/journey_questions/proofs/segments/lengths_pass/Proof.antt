@@ -1,6 +1,6 @@
 use borrow.Author.Needs.{needs}
-use Rattle.journey_check.proofs.segments.lengths_pass.Statement.{statement}
-use Rattle.journey_check.proofs.segments.lengths_pass.Tie as tie
+use Rattle.journey_questions.proofs.segments.lengths_pass.Statement.{statement}
+use Rattle.journey_questions.proofs.segments.lengths_pass.Tie as tie
 
 returns : tie.Need-returns
 returns c = rw (c .before .is-peering-path .ensures, c .lengths-fit .ensures)

@@ -1,6 +1,6 @@
 use borrow.Author.Needs.{needs}
-use Rattle.journey_check.proofs.verdict.is_at_start.Statement.{statement}
-use Rattle.journey_check.proofs.verdict.is_at_start.Tie as tie
+use Rattle.journey_questions.proofs.asked.is_at_start.Statement.{statement}
+use Rattle.journey_questions.proofs.asked.is_at_start.Tie as tie
 
 returns : tie.Need-returns
 returns c = rw (← c .before .curr-hop-field-idx .ensures, ← c .curr-info-field-idx .ensures)

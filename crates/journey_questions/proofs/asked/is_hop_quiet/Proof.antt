@@ -1,6 +1,6 @@
 use borrow.Author.Needs.{needs}
-use Rattle.journey_check.proofs.verdict.is_hop_quiet.Statement.{statement}
-use Rattle.journey_check.proofs.verdict.is_hop_quiet.Tie as tie
+use Rattle.journey_questions.proofs.asked.is_hop_quiet.Statement.{statement}
+use Rattle.journey_questions.proofs.asked.is_hop_quiet.Tie as tie
 
 returns : tie.Need-returns
 returns c = rw (← c .before .cons-ingress-router-alert .ensures, ← c .cons-egress-router-alert .ensures)

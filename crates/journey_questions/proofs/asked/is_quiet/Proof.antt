@@ -5,8 +5,8 @@ use Rattle.fields.specs.Fields.{consIngressAlert, consEgressAlert}
 use Rattle.standard_path.specs.Header.{hops, hopField}
 use Rattle.journey.specs.Questions.{quiet}
 use Rattle.segment_check.proofs.All.{Asked, asked-none, asked-no, asked-yes, asked-all}
-use Rattle.journey_check.proofs.verdict.is_quiet.Statement.{statement}
-use Rattle.journey_check.proofs.verdict.is_quiet.Tie as tie
+use Rattle.journey_questions.proofs.asked.is_quiet.Statement.{statement}
+use Rattle.journey_questions.proofs.asked.is_quiet.Tie as tie
 
 abbrev Inv-loop : tie.InvT-loop
 Inv-loop path hops index₀ index =

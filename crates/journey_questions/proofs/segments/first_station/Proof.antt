@@ -2,8 +2,8 @@ use borrow.Author.Needs.{needs}
 use Prim.Native.Nat.{_-_}
 use mathlib.Core.Path.{_≡_}
 use native.Mathlib.Omega.{arith}
-use Rattle.journey_check.proofs.segments.first_station.Statement.{statement}
-use Rattle.journey_check.proofs.segments.first_station.Tie as tie
+use Rattle.journey_questions.proofs.segments.first_station.Statement.{statement}
+use Rattle.journey_questions.proofs.segments.first_station.Tie as tie
 
 returns : tie.Need-returns
 returns c =

@@ -1,8 +1,8 @@
 use borrow.Author.Needs.{needs}
 use native.Mathlib.Omega.{arith}
 use Rattle.standard_path.specs.Header.{infos, hops}
-use Rattle.journey_check.proofs.verdict.station_count.Statement.{statement}
-use Rattle.journey_check.proofs.verdict.station_count.Tie as tie
+use Rattle.journey_questions.proofs.asked.station_count.Statement.{statement}
+use Rattle.journey_questions.proofs.asked.station_count.Tie as tie
 
 returns : tie.Need-returns
 returns c = rw (← c .before .before .is-peering-path .ensures, c .before .if1 .taken) (c .hop-field-count .ensures)

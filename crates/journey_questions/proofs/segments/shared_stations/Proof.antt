@@ -1,6 +1,6 @@
 use borrow.Author.Needs.{needs}
-use Rattle.journey_check.proofs.segments.shared_stations.Statement.{statement}
-use Rattle.journey_check.proofs.segments.shared_stations.Tie as tie
+use Rattle.journey_questions.proofs.segments.shared_stations.Statement.{statement}
+use Rattle.journey_questions.proofs.segments.shared_stations.Tie as tie
 
 returns : tie.Need-returns
 returns c = rw (← c .before .is-peering-path .ensures, c .if1 .taken)

@@ -1,6 +1,6 @@
 use borrow.Author.Needs.{needs}
-use Rattle.journey_check.proofs.verdict.itinerary_fits.Statement.{statement}
-use Rattle.journey_check.proofs.verdict.itinerary_fits.Tie as tie
+use Rattle.journey_questions.proofs.asked.itinerary_fits.Statement.{statement}
+use Rattle.journey_questions.proofs.asked.itinerary_fits.Tie as tie
 
 returns : tie.Need-returns
 returns c = rw (← c .before .station-count .ensures, ← c .fits2 .ensures)

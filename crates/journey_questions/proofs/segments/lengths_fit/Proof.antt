@@ -1,7 +1,7 @@
 use borrow.Author.Needs.{needs}
 use Rattle.journey.specs.Check.{lengthsFit}
-use Rattle.journey_check.proofs.segments.lengths_fit.Statement.{statement}
-use Rattle.journey_check.proofs.segments.lengths_fit.Tie as tie
+use Rattle.journey_questions.proofs.segments.lengths_fit.Statement.{statement}
+use Rattle.journey_questions.proofs.segments.lengths_fit.Tie as tie
 
 returns : tie.Need-returns
 unfolding lengthsFit
