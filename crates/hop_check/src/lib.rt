@@ -56,7 +56,8 @@ pub fn hop_fits(
     last: bool,
 ) -> bool
     ensures { λ r. ⌜ r ≡ hopFits (keyMacBy (now (table .entry)) (keyOf (layoutOf form) (now (itinerary .entry)) station))
-        (stationAt (layoutOf form) (now (itinerary .entry)) station) latest (now (info .entry)) (now (hop .entry)) «segment_id» first last ⌝ }
+        (stationAt (layoutOf form) (now (itinerary .entry)) station) latest (now (info .entry)) (now (hop .entry))
+        «segment_id» first last ⌝ }
 {
     let key = records::key(form, itinerary, station);
     (latest <= fields::expiry_timestamp(hop, info))

@@ -1,5 +1,5 @@
 -- 01, 'Journey check (added)', 'Passed exactly if': the conditions on a path and the stations that it is to pass. Nothing is moved.
--- By parts: the lengths, each segment (segment_check/specs/Segment.antt), each joint, which is where a segment ends and the next one begins.
+-- By parts: the lengths, each segment (segment_check/specs/Segment.antt), each joint, where a segment ends and the next one begins.
 -- Assumes nothing.
 use Prim.Native.Nat.{ℕ, _+_, _-_}
 use mathlib.Core.Bool.{Bool, not, _&&_, _||_, cond}
@@ -49,8 +49,8 @@ segmentPasses edition route earliest latest path s =
     segmentFits (stationOf edition route path s) earliest latest (peeringHopOf edition path s) (infoField path s) (hopOf path s)
     (countOf path s)
 
--- from segment s, which has a hop, to the next: at one station, or at two, over a peering link (F-6), where the first hop leaves. Either way
--- the second hop's arrival. No clock is read there
+-- from segment s, which has a hop, to the next: at one station, or at two, over a peering link (F-6), where the first hop leaves.
+-- Either way the second hop's arrival. No clock is read there
 unfoldable pub jointPasses : Edition → List Station → List ℕ → ℕ → Bool
 jointPasses edition route path s =
     let here = stationOf edition route path s (countOf path s - 1) in
