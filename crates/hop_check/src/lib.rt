@@ -14,7 +14,7 @@ ghost use Rattle.hop_check.specs.Inner.{keyMacBy};
 fn mac_fits(table: &[u8; 1024], key: [u8; 16], info: &[u8], hop: &[u8], segment_id: u16) -> bool
     ensures { λ r. ⌜ r ≡ macFits (keyMacBy (now (table .entry)) key) (now (info .entry)) (now (hop .entry)) «segment_id» ⌝ }
 {
-    let round_keys = aes::expand_key(key);
+    let round_keys = aes_keys::expand_key(key);
     let k1 = cmac::subkey_with(table, round_keys);
     let expected = expected_mac(table, round_keys, k1, hop, info, segment_id);
     let found = mac_number(fields::mac(hop));

@@ -14,8 +14,7 @@ use Rattle.station.specs.Station.{Station}
 use Rattle.segment_check.specs.Segment.{startOf, countOf}
 use Rattle.journey.specs.Journey.{StationStep, goesOn, someLeft, orEnds, journey, delivers, endedWell}
 use Rattle.journey.proofs.Stands.{Stands, arrivingSegId}
-use Rattle.journey.proofs.Hops.{Hop, inner, over, start-next, Kind, middle, joint, kind, isLast, hop-ahead, hop-across}
-use Rattle.place.proofs.Places.{last}
+use Rattle.journey.proofs.Hops.{Hop, inner, over, start-next, Kind, middle, last, joint, kind, isLast, hop-ahead, hop-across}
 use Rattle.journey.proofs.Steps.{Given, Reached}
 use Rattle.journey.proofs.Laws.{good, segmentBehind, placeBehind, Laws, crossing}
 

@@ -21,8 +21,7 @@ use Rattle.hop_check.specs.Hop.{leavesBy}
 use Rattle.segment_check.specs.Segment.{startOf, countOf, hopOf}
 use Rattle.journey.specs.Journey.{StationStep, goesOn, delivers}
 use Rattle.journey.proofs.Stands.{Stands, arrivingSegId}
-use Rattle.journey.proofs.Hops.{Hop, nextSegment, nextPlace, Kind, middle, joint, isLast}
-use Rattle.place.proofs.Places.{last}
+use Rattle.journey.proofs.Hops.{Hop, nextSegment, nextPlace, Kind, middle, last, joint, isLast}
 use Rattle.journey.proofs.Steps.{Given, Reached, hopTests, linkTests}
 use Rattle.journey.proofs.Stops.{stopNumbers, refusedWith}
 

@@ -40,8 +40,7 @@ use Rattle.segment_check.specs.Segment.{startOf, countOf, hopOf, chainedSegId, 
 use Rattle.journey.specs.Journey.{stepAt}
 use Rattle.journey.proofs.Quiet.{Quiet, quiet-ingress, quiet-egress}
 use Rattle.journey.proofs.Stands.{Stands, checkedSegId, arrivingSegId, deliveredSegId, hop-here, dir-here, info-among, info-room, enters, segments-on}
-use Rattle.journey.proofs.Hops.{Hop, Onward, middle, joint, placed, inside-onward, in-header, next-in-header, start-next, before-end}
-use Rattle.place.proofs.Places.{last}
+use Rattle.journey.proofs.Hops.{Hop, Onward, middle, last, joint, placed, inside-onward, in-header, next-in-header, start-next, before-end}
 
 -- what 2, 3, 4 and 25 let through
 pub record Given (path : List ℕ) : Type 0 where
