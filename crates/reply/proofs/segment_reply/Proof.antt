@@ -7,7 +7,7 @@ use Rattle.standard_path.specs.Header.{headerNumber, headerCheck, segmentIndex}
 use Rattle.standard_path.specs.declared.view.HeaderCheck.{HeaderCheck}
 use Rattle.standard_path.specs.declared.view.HeaderCheck.the-variants.{Complete, Failed}
 use Rattle.standard_path.proofs.HeaderAsked.{header-asked}
-use Rattle.answers.specs.declared.scmp.ScmpError.the-variants.{NoMessage}
+use Rattle.scmp.specs.declared.ScmpError.the-variants.{NoMessage}
 use Rattle.reply.specs.declared.Reply.{Reply}
 use Rattle.reply.specs.Reply.{reply, indexReply, segmentReply}
 use Rattle.reply.proofs.segment_reply.Statement.{statement}
