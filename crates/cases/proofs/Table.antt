@@ -42,13 +42,14 @@ use Rattle.record_rules.specs.Rules.{sizeSound, nextSound, areZero, zerosSound,
 use Rattle.soundness.specs.Soundness.{isNoStation, interfaceSound, stationSound, soundOf}
 use Rattle.station.specs.Station.{Station, stationWith}
 use Rattle.itinerary.specs.Itinerary.{stationsOf, stations, tablesSound, arrivalsFit, planFits, itineraryFits}
-use Rattle.journey.specs.Check.{lengthsFit, segmentPasses, jointPasses, passes}
+use Rattle.journey_questions.specs.Lengths.{lengthsFit}
+use Rattle.journey.specs.Check.{segmentPasses, jointPasses, passes}
 use Rattle.segment_check.specs.Segment.{eachBelow, macsFrom, chainedSegId, segmentFits}
 use Rattle.hop_check.specs.Hop.{macFits, arrivesBy, leavesBy, hopFits}
-use Rattle.journey.specs.Questions.{questions, quiet}
+use Rattle.journey_questions.specs.Questions.{questions, quiet}
 use Rattle.journey.specs.Verdict.{journeyCheck}
-use Rattle.journey.specs.declared.answer.Verdict.{Verdict}
-use Rattle.journey.specs.declared.answer.Verdict.the-variants.{Passed, NotPassed}
+use Rattle.journey_questions.specs.declared.answer.Verdict.{Verdict}
+use Rattle.journey_questions.specs.declared.answer.Verdict.the-variants.{Passed, NotPassed}
 use Rattle.journey.specs.Journey.{stepAt, goesOn, journey, delivers, endedWell, arrives}
 use Rattle.cases.proofs.Macs.{key, mac-down-0, mac-down-1, mac-down-2, mac-up, mac-other, mac-next, mac-last}
 

@@ -7,9 +7,9 @@ use native.Mathlib.Omega.{arith}
 use Rattle.standard_path.specs.declared.view.HeaderError.the-variants.{MetaTooShort, DataTooShort, TooManyHops}
 use Rattle.edition.specs.declared.Edition.{Edition}
 use Rattle.records.specs.Layout.{Layout}
-use Rattle.journey.specs.declared.answer.JourneyError.the-variants.{HeaderFailed, UnfitItinerary, NotAtStart, AlertSet}
-use Rattle.journey.specs.declared.answer.Verdict.{Verdict}
-use Rattle.journey.specs.declared.answer.Verdict.the-variants.{Passed, NotPassed, Refused}
+use Rattle.journey_questions.specs.declared.answer.JourneyError.the-variants.{HeaderFailed, UnfitItinerary, NotAtStart, AlertSet}
+use Rattle.journey_questions.specs.declared.answer.Verdict.{Verdict}
+use Rattle.journey_questions.specs.declared.answer.Verdict.the-variants.{Passed, NotPassed, Refused}
 use Rattle.journey.specs.Verdict.{journeyCheck, Demand3}
 use Rattle.reply.specs.Reply.{journeyReply}
 use Rattle.reply.specs.declared.Reply.{Reply}

@@ -9,7 +9,7 @@ use Rattle.questions.specs.Questions.{allYes}
 use Rattle.edition.specs.declared.Edition.{Edition}
 use Rattle.records.specs.Layout.{Layout}
 use Rattle.itinerary.specs.Itinerary.{stations}
-use Rattle.journey.specs.Questions.{questions}
+use Rattle.journey_questions.specs.Questions.{questions}
 use Rattle.journey.specs.Journey.{stepAt, Travels}
 
 -- for each call that 2 to 4 and 23 to 25 let through it is 120 exactly if the path travels

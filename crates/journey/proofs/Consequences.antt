@@ -16,9 +16,9 @@ use Rattle.edition.specs.Edition.{peeringPath}
 use Rattle.records.specs.Layout.{Layout}
 use Rattle.station.specs.Station.{Station}
 use Rattle.itinerary.specs.Itinerary.{stations}
-use Rattle.journey.specs.declared.answer.Verdict.the-variants.{Passed, Refused}
+use Rattle.journey_questions.specs.declared.answer.Verdict.the-variants.{Passed, Refused}
 use Rattle.journey.specs.Journey.{StationStep, stepAt, journey, arrives}
-use Rattle.journey.specs.Questions.{questions}
+use Rattle.journey_questions.specs.Questions.{questions}
 use Rattle.journey.specs.Verdict.{journeyCheck}
 use Rattle.journey.proofs.Lengths.{linked-infos}
 use Rattle.journey.proofs.Parts.{shared-first}

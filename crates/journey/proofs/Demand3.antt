@@ -18,12 +18,12 @@ use Rattle.edition.specs.declared.Edition.{Edition}
 use Rattle.records.specs.Layout.{Layout}
 use Rattle.station.specs.Station.{Station}
 use Rattle.itinerary.specs.Itinerary.{stations}
-use Rattle.journey.specs.declared.answer.Verdict.the-variants.{Passed, NotPassed, Refused}
+use Rattle.journey_questions.specs.declared.answer.Verdict.the-variants.{Passed, NotPassed, Refused}
 use Rattle.segment_check.specs.Segment.{chainedSegId, macsFrom}
 use Rattle.journey.specs.Check.{noStation, passes}
 use Rattle.journey.specs.Journey.{StationStep, journey, endedWell, arrives, Readings, Travels}
 use Rattle.journey.specs.Verdict.{Demand3}
-use Rattle.journey.specs.Questions.{questions}
+use Rattle.journey_questions.specs.Questions.{questions}
 use Rattle.journey.specs.Verdict.{journeyCheck}
 use Rattle.journey.proofs.Stands.{Stands, arrivingSegId}
 use Rattle.edition.proofs.Peering.{fits-valid, valid-fits}

@@ -14,7 +14,8 @@ use Rattle.edition.specs.Edition.{peeringPath}
 use Rattle.station.specs.Station.{Station}
 use Rattle.segment_check.specs.Segment.{startOf, countOf}
 use Rattle.segment_check.proofs.All.{at-most-three}
-use Rattle.journey.specs.Check.{shared, noStation}
+use Rattle.journey_questions.specs.Lengths.{shared}
+use Rattle.journey.specs.Check.{noStation}
 use Rattle.journey.proofs.Hops.{Hop, Onward, inner, over, over-before, Kind, middle, last, joint, kind, isLast, in-header, start-next, next-in-header}
 use Rattle.journey.proofs.Lengths.{Shape, one, two, three, linked, linked-infos, all-double, station-among, last-segment, spare, Enough}
 use Rattle.journey.proofs.Laws.{hopGood, linkGood, wayGood, good, segmentBehind, placeBehind, crossing}

@@ -17,7 +17,7 @@ use Rattle.edition.specs.declared.Edition.{Edition}
 use Rattle.edition.specs.Edition.{peeringPath, peeringQuestions}
 use Rattle.station.specs.Station.{Station}
 use Rattle.segment_check.specs.Segment.{startOf, countOf}
-use Rattle.journey.specs.Check.{longEnough, lengthsFit, lengthsPass, shared}
+use Rattle.journey_questions.specs.Lengths.{longEnough, lengthsFit, lengthsPass, shared}
 use Rattle.segment_check.proofs.All.{at-most-three}
 use Rattle.edition.proofs.Peering.{peering-lengths}
 use Rattle.journey.proofs.Hops.{Hop, before-end}

@@ -22,7 +22,7 @@ use Rattle.itinerary.specs.Itinerary.{stations, arrivalsFit, tablesSound, planF
 use Rattle.soundness.specs.Soundness.{itinerarySound}
 use Rattle.records.proofs.Every.{every-at}
 use Rattle.journey.specs.Check.{noStation}
-use Rattle.journey.specs.Questions.{stationCount, quiet, questions}
+use Rattle.journey_questions.specs.Questions.{stationCount, quiet, questions}
 use Rattle.journey.proofs.Quiet.{Quiet}
 use Rattle.journey.proofs.Steps.{Given}
 use Rattle.segment_check.proofs.All.{all-at}

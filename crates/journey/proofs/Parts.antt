@@ -21,7 +21,8 @@ use Rattle.station.specs.Station.{Station}
 use Rattle.hop_check.specs.Hop.{macFits, arrivesBy, leavesBy, hopFits}
 use Rattle.segment_check.specs.Segment.{eachBelow, chainedSegId, hopFitsAt, segmentFits, peeringHopOf, startOf, countOf, hopOf}
 use Rattle.joint_check.specs.Joint.{changeFits}
-use Rattle.journey.specs.Check.{lengthsPass, shared, noStation, stationOf, segmentPasses, jointPasses, passes}
+use Rattle.journey_questions.specs.Lengths.{lengthsPass, shared}
+use Rattle.journey.specs.Check.{noStation, stationOf, segmentPasses, jointPasses, passes}
 use Rattle.segment_check.proofs.All.{all-at, all-of, at-most-three}
 use Rattle.journey.proofs.Hops.{Onward, inner, over, start-next}
 use Rattle.journey.proofs.Laws.{linkGood}

@@ -1,12 +1,11 @@
 -- 01, 'Journey check (added)', 'Passed exactly if': the conditions on a path and the stations that it is to pass. Nothing is moved.
--- By parts: the lengths, each segment (segment_check/specs/Segment.antt), each joint, where a segment ends and the next one begins.
+-- By parts: the lengths (journey_questions/specs/Lengths.antt), each segment (segment_check/specs/Segment.antt), each joint, where a
+-- segment ends and the next one begins.
 -- Assumes nothing.
 use Prim.Native.Nat.{ℕ, _+_, _-_}
-use mathlib.Core.Bool.{Bool, not, _&&_, _||_, cond}
+use mathlib.Core.Bool.{Bool, _&&_, cond}
 use mathlib.Core.List.{List, []}
-use lib.Dec.{eqb, leb}
 use lib.ListN.{getD}
-use Rattle.standard_path.specs.Meta.{seg0Len, seg1Len, seg2Len}
 use Rattle.standard_path.specs.Header.{infos, infoField}
 use Rattle.edition.specs.declared.Edition.{Edition}
 use Rattle.edition.specs.Edition.{peeringPath, peeringFits}
@@ -14,30 +13,10 @@ use Rattle.station.specs.Station.{Station}
 use Rattle.hop_check.specs.Hop.{arrivesBy, leavesBy}
 use Rattle.segment_check.specs.Segment.{eachBelow, startOf, countOf, hopOf, peeringHopOf, segmentFits}
 use Rattle.joint_check.specs.Joint.{changeFits}
-
--- ---- the lengths
-
--- 'each used length is at least 2'
-abbrev pub longEnough : ℕ → Bool
-longEnough count = eqb count 0 || leb 2 count
-
--- 'the first length is not 0, no nonzero length follows a zero one'
-unfoldable pub lengthsFit : ℕ → ℕ → ℕ → Bool
-lengthsFit seg0 seg1 seg2 =
-    not (eqb seg0 0) && (not (eqb seg1 0) || eqb seg2 0) && longEnough seg0 && longEnough seg1 && longEnough seg2
-
--- F-6: 'A one-hop segment is accepted on such a path .. and in its journey'; its two lengths are not 0, and no third follows
-abbrev pub lengthsPass : Edition → List ℕ → Bool
-lengthsPass edition path = peeringPath edition path || lengthsFit (seg0Len path) (seg1Len path) (seg2Len path)
-
--- ---- the whole path
+use Rattle.journey_questions.specs.Lengths.{lengthsPass, shared}
 
 abbrev pub noStation : Station
 noStation = record { arrival = 0; key = []; ids = []; states = [] }
-
--- how many stations before segment s take two hops. F-6: 'counts each peering hop as an AS of its own'
-abbrev pub shared : Edition → List ℕ → ℕ → ℕ
-shared edition path s = cond (peeringPath edition path) 0 s
 
 -- the station of hop m of segment s: 'one each, but a segment's last hop and the next segment's first go to one station'.
 -- Where the lengths fit, each segment before s has a hop or more, so that the subtraction is exact

@@ -1,4 +1,3 @@
-pub mod Questions
 pub mod Journey
 pub mod Check
 pub mod Verdict

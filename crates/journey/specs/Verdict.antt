@@ -9,9 +9,9 @@ use Rattle.questions.specs.Questions.{asks, allYes}
 use Rattle.edition.specs.declared.Edition.{Edition}
 use Rattle.records.specs.Layout.{Layout}
 use Rattle.itinerary.specs.Itinerary.{stations}
-use Rattle.journey.specs.declared.answer.Verdict.{Verdict}
-use Rattle.journey.specs.declared.answer.Verdict.the-variants.{Passed, NotPassed, Refused}
-use Rattle.journey.specs.Questions.{questions}
+use Rattle.journey_questions.specs.declared.answer.Verdict.{Verdict}
+use Rattle.journey_questions.specs.declared.answer.Verdict.the-variants.{Passed, NotPassed, Refused}
+use Rattle.journey_questions.specs.Questions.{questions}
 use Rattle.journey.specs.Journey.{stepAt, Travels}
 use Rattle.journey.specs.Check.{passes}
 

@@ -1,3 +1,2 @@
-// The answers of the journey check. What they mean is in specs/, that they are right in proofs/; the check itself is the crate
-// journey_check.
-pub mod answer;
+// The journey over the stations of an itinerary, the definition of the journey check, and the theorem that it passes a path exactly if
+// the path travels: definitions in specs/, the theorem in proofs/. There is no code; the check itself is the crate journey_check.

@@ -24,7 +24,8 @@ use Rattle.segment_check.specs.Segment.{eachBelow, segmentFits, startOf, countO
 use Rattle.segment_check.proofs.All.{all-same, at-most-three}
 use Rattle.joint_check.specs.Joint.{changeFits}
 use Rattle.joint_check.specs.Inner.{jointFitsFrom}
-use Rattle.journey.specs.Check.{shared, noStation, stationOf, segmentPasses, jointPasses}
+use Rattle.journey_questions.specs.Lengths.{shared}
+use Rattle.journey.specs.Check.{noStation, stationOf, segmentPasses, jointPasses}
 use Rattle.journey.proofs.Lengths.{Shape, all-long, station-among, start-enough, fit-shape}
 use Rattle.journey.proofs.Facts.{shared-linked}
 use Rattle.journey.proofs.LetThrough.{infos-few}

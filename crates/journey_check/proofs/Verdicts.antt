@@ -14,11 +14,11 @@ use Rattle.standard_path.specs.declared.view.HeaderCheck.the-variants.{Complete
 use Rattle.edition.specs.declared.Edition.{Edition}
 use Rattle.records.specs.Layout.{Layout}
 use Rattle.itinerary.specs.Itinerary.{stations}
-use Rattle.journey.specs.declared.answer.JourneyError.the-variants.{HeaderFailed}
-use Rattle.journey.specs.declared.answer.Verdict.{Verdict}
-use Rattle.journey.specs.declared.answer.Verdict.the-variants.{Passed, NotPassed, Refused}
+use Rattle.journey_questions.specs.declared.answer.JourneyError.the-variants.{HeaderFailed}
+use Rattle.journey_questions.specs.declared.answer.Verdict.{Verdict}
+use Rattle.journey_questions.specs.declared.answer.Verdict.the-variants.{Passed, NotPassed, Refused}
 use Rattle.journey.specs.Check.{passes}
-use Rattle.journey.specs.Questions.{questions}
+use Rattle.journey_questions.specs.Questions.{questions}
 use Rattle.journey.specs.Verdict.{journeyCheck, Demand3}
 use Rattle.journey.proofs.Demand3.{demand-3}
 

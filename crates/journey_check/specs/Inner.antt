@@ -8,8 +8,8 @@ use lib.ListN.{length}
 use Rattle.edition.specs.declared.Edition.{Edition}
 use Rattle.records.specs.Layout.{Layout}
 use Rattle.itinerary.specs.Itinerary.{stations}
-use Rattle.journey.specs.Check.{lengthsPass}
-use Rattle.journey.specs.Questions.{stationCount}
+use Rattle.journey_questions.specs.Lengths.{lengthsPass}
+use Rattle.journey_questions.specs.Questions.{stationCount}
 
 pub record Matched (edition : Edition) (layout : Layout) (itinerary path : List ℕ) : Type 0 where
   pub fit : lengthsPass edition path ≡ true

@@ -1,8 +1,8 @@
 // The journey check: 01's questions 2 to 4 and 23 to 25, then the conditions of a pass.
 use edition::Edition;
 use joint_check::joints_fit;
-use journey::answer::JourneyError;
-use journey::answer::Verdict;
+use journey_questions::answer::JourneyError;
+use journey_questions::answer::Verdict;
 use journey_questions::asked::is_at_start;
 use journey_questions::asked::is_quiet;
 use journey_questions::asked::itinerary_fits;
@@ -19,9 +19,9 @@ ghost use Rattle.questions.specs.Questions.{asks};
 ghost use Rattle.records.specs.Layout.{narrow, layoutOf};
 ghost use Rattle.itinerary.specs.Itinerary.{stations};
 ghost use Rattle.journey.specs.Check.{passes};
-ghost use Rattle.journey.specs.Questions.{stationCount, questions};
+ghost use Rattle.journey_questions.specs.Questions.{stationCount, questions};
 ghost use Rattle.journey.specs.Verdict.{journeyCheck, Demand3};
-ghost use Rattle.journey.specs.declared.answer.Verdict.the-variants.{Passed, NotPassed, Refused};
+ghost use Rattle.journey_questions.specs.declared.answer.Verdict.the-variants.{Passed, NotPassed, Refused};
 
 // ---- the conditions of a pass
 

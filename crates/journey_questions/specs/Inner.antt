@@ -7,7 +7,7 @@ use Rattle.edition.specs.declared.Edition.{Edition}
 use Rattle.records.specs.Layout.{Layout}
 use Rattle.records.specs.Records.{stationRecords}
 use Rattle.segment_check.specs.Segment.{startOf}
-use Rattle.journey.specs.Check.{shared}
+use Rattle.journey_questions.specs.Lengths.{shared}
 
 abbrev pub firstRecord : Edition → Layout → List ℕ → List ℕ → ℕ → ℕ
 firstRecord edition layout itinerary path s = getD (stationRecords layout itinerary) (startOf path s - shared edition path s) 0

@@ -1,1 +1,3 @@
+pub mod Questions
+pub mod Lengths
 pub mod Inner

@@ -9,7 +9,7 @@ ghost use Rattle.standard_path.specs.Meta.{currHf, currInf};
 ghost use Rattle.fields.specs.Fields.{consIngressAlert, consEgressAlert};
 ghost use Rattle.records.specs.Layout.{layoutOf};
 ghost use Rattle.itinerary.specs.Itinerary.{itineraryFits};
-ghost use Rattle.journey.specs.Questions.{stationCount, quiet};
+ghost use Rattle.journey_questions.specs.Questions.{stationCount, quiet};
 
 fn station_count(edition: Edition, path: &[u8]) -> u8
     ensures { λ r. ⌜ r ≡ stationCount edition (now (path .entry)) ⌝ }

@@ -7,7 +7,7 @@ use station::station_record;
 ghost use mathlib.Core.Path.{_≡_};
 ghost use Rattle.standard_path.specs.Meta.{seg0Len, seg1Len, seg2Len};
 ghost use Rattle.records.specs.Layout.{layoutOf};
-ghost use Rattle.journey.specs.Check.{longEnough, lengthsFit, lengthsPass, shared};
+ghost use Rattle.journey_questions.specs.Lengths.{longEnough, lengthsFit, lengthsPass, shared};
 ghost use Rattle.journey_questions.specs.Inner.{firstRecord, firstRecords};
 
 // ---- the lengths

@@ -10,8 +10,8 @@ use Rattle.standard_path.specs.Header.{infos, hops, infoField, hopField}
 use Rattle.edition.specs.declared.Edition.the-variants.{First, Second}
 use Rattle.edition.specs.Edition.{peeringForm, peeringPlaced, peeringFits}
 use Rattle.segment_check.specs.Segment.{macsFrom, chainedSegId, peeringHopOf, hopOf}
-use Rattle.journey.specs.Check.{lengthsFit, lengthsPass}
-use Rattle.journey.specs.Questions.{stationCount}
+use Rattle.journey_questions.specs.Lengths.{lengthsFit, lengthsPass}
+use Rattle.journey_questions.specs.Questions.{stationCount}
 
 abbrev info : ℕ → List ℕ
 info flags = flags ∷ 0x00 ∷ 0x00 ∷ 0x00 ∷ 0x00 ∷ 0x00 ∷ 0x03 ∷ 0xe8 ∷ []

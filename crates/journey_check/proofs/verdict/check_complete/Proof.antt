@@ -7,10 +7,10 @@ use denote.Ref.{now}
 use Rattle.octets.proofs.Bools.{first-of}
 use Rattle.questions.specs.Questions.{asks}
 use Rattle.records.specs.Layout.{layoutOf}
-use Rattle.journey.specs.Questions.{questions}
+use Rattle.journey_questions.specs.Questions.{questions}
 use Rattle.journey.specs.Check.{passes}
-use Rattle.journey.specs.declared.answer.Verdict.{Verdict}
-use Rattle.journey.specs.declared.answer.Verdict.the-variants.{Refused}
+use Rattle.journey_questions.specs.declared.answer.Verdict.{Verdict}
+use Rattle.journey_questions.specs.declared.answer.Verdict.the-variants.{Refused}
 use Rattle.journey_check.proofs.Stations.{fits-counted}
 use Rattle.journey_check.proofs.verdict.check_complete.Statement.{statement}
 use Rattle.journey_check.proofs.verdict.check_complete.Tie as tie

@@ -3,7 +3,7 @@ use mathlib.Core.Bool.{not, _&&_}
 use Prim.Native.Nat.{_-_}
 use Rattle.fields.specs.Fields.{consIngressAlert, consEgressAlert}
 use Rattle.standard_path.specs.Header.{hops, hopField}
-use Rattle.journey.specs.Questions.{quiet}
+use Rattle.journey_questions.specs.Questions.{quiet}
 use Rattle.segment_check.proofs.All.{Asked, asked-none, asked-no, asked-yes, asked-all}
 use Rattle.journey_questions.proofs.asked.is_quiet.Statement.{statement}
 use Rattle.journey_questions.proofs.asked.is_quiet.Tie as tie

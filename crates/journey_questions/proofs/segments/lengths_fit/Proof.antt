@@ -1,5 +1,5 @@
 use borrow.Author.Needs.{needs}
-use Rattle.journey.specs.Check.{lengthsFit}
+use Rattle.journey_questions.specs.Lengths.{lengthsFit}
 use Rattle.journey_questions.proofs.segments.lengths_fit.Statement.{statement}
 use Rattle.journey_questions.proofs.segments.lengths_fit.Tie as tie
 

@@ -14,40 +14,48 @@ returns c =
       rw (← standard-path-ingress .ensures .0, ← standard-path-ingress .ensures .1) (stays _ _ _ _ _ _ _ _ (match .keys2)),
     )
 
+-- ---- places in the call, once ingress went on: ingress, and the interface that it gave
+
+abbrev entered : tie.After-validate-leaving → tie.After-standard-path-ingress
+entered c = c .before .before .before .before .before .before .before
+
+abbrev onward : tie.After-validate-leaving → tie.After-next-action
+onward c = c .before .before .before
+
+-- 15 and 17 had a yes
+abbrev listed : tie.After-validate-place → tie.After-enum-told
+listed c = c .before .before
+
 returns-2 : tie.Need-returns-2
 returns-2 c =
-    let curr-hop-field-idx = c .before .before .before .before .before .before .before .before .before .before .before .before .curr-hop-field-idx in
-    let standard-path-ingress = c .before .before .before .before .before .before .before .before .before .before .standard-path-ingress in
-    let next-action = c .before .before .before .before .before .before .next-action in
-    let validate-leaving = c .before .before .before .validate-leaving in
-    rw (step-by _ _ _ _ _ _ _ _ _ (sym (standard-path-ingress .ensures .0) ∙ next-action .given .1) (standard-path-ingress .ensures .1)
-    (curr-hop-field-idx .ensures) (sym (c .before .why .given .1) ∙ validate-leaving .ensures) refl) (refl, refl)
+    let left = c .before .before .before in
+    let entry = entered left in
+    rw (step-by _ _ _ _ _ _ _ _ _ (sym (entry .standard-path-ingress .ensures .0) ∙ onward left .next-action .given .1)
+    (entry .standard-path-ingress .ensures .1) (entry .before .before .curr-hop-field-idx .ensures)
+    (sym (c .before .why .given .1) ∙ left .validate-leaving .ensures) refl) (refl, refl)
 
 returns-3 : tie.Need-returns-3
 returns-3 c =
-    let curr-hop-field-idx = c .before .before .before .before .before .before .before .before .before .before .before .before .before .before .before .before .curr-hop-field-idx in
-    let standard-path-ingress = c .before .before .before .before .before .before .before .before .before .before .before .before .before .before .standard-path-ingress in
-    let next-action = c .before .before .before .before .before .before .before .before .before .before .next-action in
-    let validate-leaving = c .before .before .before .before .before .before .before .validate-leaving in
-    let enum-told = c .before .before .before .before .before .enum-told in
-    let validate-place = c .before .before .before .validate-place in
-    rw (step-by _ _ _ _ _ _ _ _ _ (sym (standard-path-ingress .ensures .0) ∙ next-action .given .1) (standard-path-ingress .ensures .1)
-    (curr-hop-field-idx .ensures) (sym (enum-told .given .1) ∙ validate-leaving .ensures)
-    (sym (c .before .why2 .given .1) ∙ validate-place .ensures)) (refl, refl)
+    let placed = c .before .before .before in
+    let left = listed placed .before .before in
+    let entry = entered left in
+    rw (step-by _ _ _ _ _ _ _ _ _ (sym (entry .standard-path-ingress .ensures .0) ∙ onward left .next-action .given .1)
+    (entry .standard-path-ingress .ensures .1) (entry .before .before .curr-hop-field-idx .ensures)
+    (sym (listed placed .enum-told .given .1) ∙ left .validate-leaving .ensures)
+    (sym (c .before .why2 .given .1) ∙ placed .validate-place .ensures)) (refl, refl)
 
 returns-4 : tie.Need-returns-4
 returns-4 c =
-    let curr-hop-field-idx = c .before .before .before .before .before .before .before .before .before .before .before .before .before .before .before .before .before .before .before .curr-hop-field-idx in
-    let standard-path-ingress = c .before .before .before .before .before .before .before .before .before .before .before .before .before .before .before .before .before .standard-path-ingress in
-    let next-action = c .before .before .before .before .before .before .before .before .before .before .before .before .before .next-action in
-    let validate-leaving = c .before .before .before .before .before .before .before .before .before .before .validate-leaving in
-    let enum-told = c .before .before .before .before .before .before .before .before .enum-told in
-    let validate-place = c .before .before .before .before .before .before .validate-place in
-    let enum-told2 = c .before .before .before .before .enum-told2 in
-    rw (step-by _ _ _ _ _ _ _ _ _ (sym (standard-path-ingress .ensures .0) ∙ next-action .given .1) (standard-path-ingress .ensures .1)
-    (curr-hop-field-idx .ensures) (sym (enum-told .given .1) ∙ validate-leaving .ensures)
-    (sym (enum-told2 .given .1) ∙ validate-place .ensures))
-    (c .before .before .egress-inside .ensures .0, c .before .before .egress-inside .ensures .1)
+    let inside = c .before .before in
+    let stood = inside .before .before in
+    let placed = stood .before .before in
+    let left = listed placed .before .before in
+    let entry = entered left in
+    rw (step-by _ _ _ _ _ _ _ _ _ (sym (entry .standard-path-ingress .ensures .0) ∙ onward left .next-action .given .1)
+    (entry .standard-path-ingress .ensures .1) (entry .before .before .curr-hop-field-idx .ensures)
+    (sym (listed placed .enum-told .given .1) ∙ left .validate-leaving .ensures)
+    (sym (stood .enum-told2 .given .1) ∙ placed .validate-place .ensures))
+    (inside .egress-inside .ensures .0, inside .egress-inside .ensures .1)
 
 pub handle-standard-path-spec : {M : Type 1} → statement M
 handle-standard-path-spec =

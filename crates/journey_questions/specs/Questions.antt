@@ -13,8 +13,8 @@ use Rattle.edition.specs.Edition.{peeringPath}
 use Rattle.records.specs.Layout.{Layout}
 use Rattle.itinerary.specs.Itinerary.{itineraryFits}
 use Rattle.segment_check.specs.Segment.{eachBelow}
-use Rattle.journey.specs.declared.answer.JourneyError.{JourneyError}
-use Rattle.journey.specs.declared.answer.JourneyError.the-variants.{HeaderFailed, UnfitItinerary, NotAtStart, AlertSet}
+use Rattle.journey_questions.specs.declared.answer.JourneyError.{JourneyError}
+use Rattle.journey_questions.specs.declared.answer.JourneyError.the-variants.{HeaderFailed, UnfitItinerary, NotAtStart, AlertSet}
 
 abbrev pub journeyNumber : JourneyError → ℕ
 journeyNumber (HeaderFailed error) = headerNumber error

@@ -2,7 +2,7 @@
 use standard_path::view;
 use standard_path::view::HeaderError;
 ghost use mathlib.Core.Path.{_≡_};
-ghost use Rattle.journey.specs.Questions.{journeyNumber};
+ghost use Rattle.journey_questions.specs.Questions.{journeyNumber};
 
 // Why a call is refused.
 pub enum JourneyError {
