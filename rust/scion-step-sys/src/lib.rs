@@ -111,7 +111,7 @@ macro_rules! calls {
 }
 
 calls! {
-    /// The version of the archive, 1.
+    /// The version of the archive, 2.
     fn scion_step_version_2() -> u32;
 
     /// The whole step, on `path` in place.
