@@ -1,6 +1,5 @@
 // Times the journey check on the longest path and the largest plan: 64 hops in two segments, 63 stations with 256 interfaces each,
-// 2,048 records. The path passes, so every condition is asked; then it is stopped by the last station, with every clock at the earliest
-// reading, and with every clock at the latest: the longest runs.
+// 2,048 records. The path passes, so every condition is asked.
 #define _POSIX_C_SOURCE 199309L
 #include "../c/scion_step.h"
 
@@ -24,9 +23,8 @@ static void put16(uint8_t *at, unsigned value) {
     at[1] = value & 255;
 }
 
-// Each hop comes in by the last but one interface of the table and leaves by the last: the longest lookups. The last hop has an ExpTime
-// of its own.
-static void make_path(unsigned last_exp_time) {
+// Each hop comes in by the last but one interface of the table and leaves by the last: the longest lookups.
+static void make_path(void) {
     path[1] = SEGMENT / 16;
     path[2] = SEGMENT % 16 * 16 + SEGMENT / 4;
     path[3] = SEGMENT % 4 * 64;
@@ -34,7 +32,6 @@ static void make_path(unsigned last_exp_time) {
         int segment = hop / SEGMENT;
         uint8_t *info = path + 4 + 8 * segment, *field = path + 20 + 12 * hop;
         unsigned in = hop == 0 ? 0 : TABLE - 1, out = hop == HOPS - 1 ? 0 : TABLE;
-        unsigned exp_time = hop == HOPS - 1 ? last_exp_time : 255;
         static unsigned segment_id;
         if (hop % SEGMENT == 0) {
             segment_id = 0x1234 + segment;
@@ -42,10 +39,10 @@ static void make_path(unsigned last_exp_time) {
             put16(info + 2, segment_id);
             info[7] = 100;
         }
-        field[1] = exp_time;
+        field[1] = 255;
         put16(field + 2, in);
         put16(field + 4, out);
-        scion_calculate_hop_mac(segment_id, 100, exp_time, in, out, keys[hop - segment], field + 6);
+        scion_calculate_hop_mac(segment_id, 100, 255, in, out, keys[hop - segment], field + 6);
         segment_id ^= field[6] * 256 + field[7];
     }
 }
@@ -73,34 +70,21 @@ static void make_plan(void) {
     }
 }
 
-// The best of some calls, in microseconds; each has to answer so, and with these values.
-static int check(const char *what, uint32_t latest, ScionReply right) {
+int main(void) {
     double best = 1;
+    for (int k = 0; k < STATIONS; k++) memset(keys[k], k + 1, 16);
+    make_path();
+    make_plan();
     for (int round = 0; round < ROUNDS; round++) {
         double start = seconds();
-        ScionReply reply = scion_check_journey(path, PATH, plan, sizeof plan, 200, latest);
+        ScionReply reply = scion_check_journey(path, PATH, plan, sizeof plan, 200, 300);
         double took = seconds() - start;
-        if (reply.number != right.number || memcmp(reply.values, right.values, sizeof right.values) != 0) {
-            printf("%s: %u\n", what, reply.number);
+        if (reply.number != SCION_PASSED) {
+            printf("not passed: %u\n", reply.number);
             return 1;
         }
         if (took < best) best = took;
     }
-    printf("the journey check, 64 hops, 63 stations, 2048 records, %s: %.0f us\n", what, best * 1e6);
+    printf("the journey check, 64 hops, 63 stations, 2048 records: %.0f us\n", best * 1e6);
     return 0;
-}
-
-int main(void) {
-    const ScionReply passed = {.number = SCION_PASSED};
-    const ScionReply early = {.number = SCION_NOT_PASSED, .values = {STATIONS - 1, 12, SCION_READING_EARLIEST}};
-    const ScionReply late = {.number = SCION_NOT_PASSED, .values = {STATIONS - 1, 11, SCION_READING_LATEST}};
-    for (int k = 0; k < STATIONS; k++) memset(keys[k], k + 1, 16);
-    make_path(255);
-    make_plan();
-    int wrong = check("passed", 300, passed);
-    path[PATH - 1] ^= 1;
-    wrong |= check("stopped at the earliest reading", 300, early);
-    make_path(0);
-    wrong |= check("stopped at the latest reading", 1000, late);
-    return wrong;
 }

@@ -30,7 +30,7 @@ static const char *const names[CALLS] = {
     "scion_calculate_segment_index",
     "scion_aes_cmac",
     "scion_calculate_hop_mac",
-    "scion_step_version_3",
+    "scion_step_version_2",
 };
 
 static int wrong;
@@ -109,7 +109,7 @@ static void make_call(void) {
     case SEGMENT: NOTED(reply = scion_calculate_segment_index(path, path_length, hop_idx)); break;
     case CMAC: NOTED(scion_aes_cmac(key, message, message_length, mac)); break;
     case HOP_MAC: NOTED(scion_calculate_hop_mac(0x1234, 1000, 0, 3, 1, key, mac)); break;
-    case VERSION: NOTED(version = scion_step_version_3()); break;
+    case VERSION: NOTED(version = scion_step_version_2()); break;
     }
 }
 
@@ -470,7 +470,7 @@ static void journeys(void) {
     put_journey(2, 2);
     EXPECT(JOURNEY, SCION_PASSED, NONE);
     latest++;
-    EXPECT(JOURNEY, SCION_NOT_PASSED, NONE, 0, SCION_SEGMENT_EXPIRED, SCION_READING_LATEST);
+    EXPECT(JOURNEY, SCION_NOT_PASSED, NONE);
     path[0] = 1;
     EXPECT(JOURNEY, SCION_NOT_AT_START, NONE);
     path[0] = 0;
@@ -483,51 +483,6 @@ static void journeys(void) {
     EXPECT(JOURNEY, SCION_PASSED, NONE);
     itinerary_length += SCION_RECORD_BYTES;
     EXPECT(JOURNEY, SCION_UNFIT_ITINERARY, NONE);
-}
-
-// The plan's record of interface 1 or 2.
-static uint8_t *interface_at(uint32_t number) {
-    return record_at(get16(record_at(1) + 4) + number - 1);
-}
-
-// Expected are the station where a journey stops, the number of its step, and the reading.
-#define STOPS(...) EXPECT(JOURNEY, SCION_NOT_PASSED, NONE, __VA_ARGS__)
-
-// Each number that a path without P can stop by, but for 18, which needs three segments: the fuzz comes to it.
-static void stops(void) {
-    put_journey(0, 0);
-    STOPS(0, SCION_HOP_OUT_OF_BOUNDS, SCION_READING_EARLIEST);
-    put_journey(1, 0);
-    STOPS(0, SCION_SINGLE_HOP_SEGMENT, SCION_READING_EARLIEST);
-    put_journey(2, 0);
-    put16(path + 2, 2 << 6); // as the second segment, with none before it
-    STOPS(0, SCION_INVALID_SEGMENT_INDEX, SCION_READING_EARLIEST);
-    put_journey(3, 0);
-    put16(record_at(2) + 2, 2);
-    STOPS(1, SCION_INVALID_INGRESS_INTERFACE, SCION_READING_EARLIEST);
-    put_journey(3, 0);
-    earliest--;
-    STOPS(0, SCION_FUTURE_TIMESTAMP, SCION_READING_EARLIEST);
-    put_journey(3, 0);
-    earliest = ++latest;
-    STOPS(0, SCION_SEGMENT_EXPIRED, SCION_READING_EARLIEST);
-    put_journey(3, 0);
-    hop_at(2)[11] ^= 1;
-    STOPS(2, SCION_INVALID_MAC_ERROR, SCION_READING_EARLIEST);
-    latest++; // with the earliest reading it still stops there
-    STOPS(2, SCION_INVALID_MAC_ERROR, SCION_READING_EARLIEST);
-    put_journey(2, 2);
-    put16(interface_at(1) + 2, 0);
-    STOPS(1, SCION_UNKNOWN_INGRESS_INTERFACE, SCION_READING_EARLIEST);
-    put_journey(2, 2);
-    put16(interface_at(2) + 2, 3);
-    STOPS(0, SCION_UNKNOWN_EGRESS_INTERFACE, SCION_READING_EARLIEST);
-    put_journey(2, 2);
-    interface_at(1)[4] = SCION_LINK_UP | SCION_LINK_TO_PARENT;
-    STOPS(1, SCION_INVALID_SEGMENT_CHANGE, SCION_READING_EARLIEST);
-    put_journey(2, 2);
-    interface_at(2)[4] = SCION_LINK_TO_CHILD;
-    STOPS(0, SCION_EGRESS_INTERFACE_DOWN, SCION_READING_EARLIEST);
 }
 
 // P in an info field of a path that is no peering path: the second edition refuses, and changes nothing.
@@ -543,6 +498,7 @@ static void misplaced(void) {
 
 // Over the peering link, at whose ends hops leave by 2 and are come to by 1.
 static void peerings(void) {
+    has_peering = true;
     stand(2, 2, 1);
     SECOND(INGRESS, SCION_CONTINUE_EGRESS, NONE, 2);
     interface = 2;
@@ -582,10 +538,8 @@ static void peerings(void) {
     put_header(2, 2, 2);
     for (uint32_t info = 0; info < SCION_MAX_INFOS; info++) info_at(info)[0] = 2;
     misplaced();
-}
 
-// As many stations as hops.
-static void peering_journeys(void) {
+    // As many stations as hops.
     put_journey(2, 2);
     SECOND(JOURNEY, SCION_PASSED, NONE);
     FIRST(JOURNEY, SCION_UNFIT_ITINERARY, NONE);
@@ -593,14 +547,10 @@ static void peering_journeys(void) {
     SECOND(JOURNEY, SCION_PASSED, NONE);
     put_journey(SCION_MAX_HOPS / 2, SCION_MAX_HOPS / 2);
     SECOND(JOURNEY, SCION_PASSED, NONE);
-    latest++;
-    SECOND(JOURNEY, SCION_NOT_PASSED, NONE, 0, SCION_SEGMENT_EXPIRED, SCION_READING_LATEST);
-    put_journey(2, 2); // the last station is one that the first edition does not have
-    hop_at(3)[11] ^= 1;
-    SECOND(JOURNEY, SCION_NOT_PASSED, NONE, 3, SCION_INVALID_MAC_ERROR, SCION_READING_EARLIEST);
     put_journey(3, 0);
-    SECOND(JOURNEY, SCION_NOT_PASSED, NONE, 0, SCION_MISPLACED_PEERING, SCION_READING_EARLIEST);
+    SECOND(JOURNEY, SCION_NOT_PASSED, NONE);
     FIRST(JOURNEY, SCION_PASSED, NONE);
+    has_peering = false;
 }
 
 // The MAC of no message is that of RFC 4493.
@@ -628,11 +578,7 @@ int main(void) {
     actions();
     paths();
     journeys();
-    stops();
-    has_peering = true;
     peerings();
-    peering_journeys();
-    has_peering = false;
     macs();
     size_t most = 0;
     for (int i = 0; i < CALLS; i++) {

@@ -45,7 +45,7 @@ int main(void) {
     const uint8_t states[2] = {SCION_LINK_UP | SCION_LINK_TO_CHILD, SCION_LINK_UP | SCION_LINK_TO_PARENT};
     uint8_t path[PATH];
 
-    if (scion_step_version_3() != SCION_STEP_VERSION) {
+    if (scion_step_version_2() != SCION_STEP_VERSION) {
         fprintf(stderr, "example: the archive is not of version %d\n", SCION_STEP_VERSION);
         return 1;
     }

@@ -8,8 +8,7 @@
 //
 // Also what the header allows of pointers: null where the length is 0, and arguments that are only read laid over one
 // another. And what it says of the editions: the first is the call without one; without P the second is the first; 28
-// is for P on a path that is no peering path. And where the journey check says that a journey stops: the whole step is
-// run at each station of the plan, with every clock at the earliest reading and then at the latest.
+// is for P on a path that is no peering path.
 //
 // Two numbers can be given: the rounds and the seed. The lines printed are, for each call, its answers and how often
 // each was given.
@@ -276,7 +275,7 @@ static void put_segment_macs(uint32_t info, uint32_t first, uint32_t station) {
     if (!cons_dir(info)) put16(info_at(info) + 2, segment_id);
 }
 
-// A path and an itinerary that fit: one table of five interfaces for all stations, mostly to children and up.
+// A path and an itinerary that fit: one table of five interfaces to children for all stations.
 static void draw_journey(void) {
     draw_lengths();
     draw_header();
@@ -295,8 +294,8 @@ static void draw_journey(void) {
     for (uint32_t i = 0; i < 5; i++) {
         uint8_t *at = itinerary + RECORD * (1 + stations + i);
         put16(at, i < 4 ? 2 + stations + i : 0);
-        put16(at + 2, i < 4 || !one_in(16) ? 1 + i : 6);
-        at[4] = one_in(32) ? draw(8) : 6;
+        put16(at + 2, 1 + i);
+        at[4] = 6;
     }
     if (hops == 0 || hops > 64) return;
     for (uint32_t info = 0, first = 0, station = 0; info < infos && lengths[info] != 0; info++) {
@@ -568,84 +567,6 @@ static void fuzz_macs(void) {
     }
 }
 
-// ---- where a journey stops
-
-// The numbers that a journey stops by, without an edition and in the second, and how often for each reading.
-static const uint8_t stop_numbers[] = {5, 6, 7, 9, 10, 11, 12, 14, 15, 16, 17, 18, SCION_MISPLACED_PEERING};
-static uint64_t stop_counts[2][2][NUMBERS];
-
-static const uint8_t *record_at(uint16_t index) {
-    return itinerary + (size_t)RECORD * index;
-}
-
-// The whole step at a station of a sound plan, on a path that is on its way.
-static ScionReply step_at(int mode, const uint8_t *station, uint8_t *on_way, uint32_t time) {
-    static uint16_t listed_ids[SCION_MAX_INTERFACES];
-    static uint8_t listed_states[SCION_MAX_INTERFACES];
-    size_t count = 0;
-    for (uint16_t i = get16(station + 4); i != 0; i = get16(record_at(i)), count++) {
-        listed_ids[count] = get16(record_at(i) + 2);
-        listed_states[count] = record_at(i)[4];
-    }
-    if (mode == PLAIN)
-        return scion_handle_standard_path(listed_ids, count, listed_states, count, on_way, path_length,
-                                          get16(station + 2), time, station + 8, false);
-    return scion_handle_standard_path_in_edition(mode == SECOND, listed_ids, count, listed_states, count, on_way,
-                                                 path_length, get16(station + 2), time, station + 8, false);
-}
-
-// Whether the path arrives with every clock at this reading; else the station where it stops, and its number.
-static bool arrives(int mode, uint32_t time, uint64_t stop[2]) {
-    static uint8_t on_way[MAX_PATH];
-    memcpy(on_way, path, path_length);
-    stop[0] = 0;
-    for (uint16_t index = get16(itinerary); index != 0; index = get16(record_at(index)), stop[0]++) {
-        const uint8_t *station = record_at(index);
-        bool is_last = get16(station) == 0;
-        stop[1] = step_at(mode, station, on_way, time).number;
-        if (stop[1] != (is_last ? SCION_FORWARD_LOCAL : SCION_FORWARD_NEXT_HOP)) return false;
-    }
-    return true;
-}
-
-// The values of a journey's answer: where its steps stop, and none where they do not or were not asked.
-static void check_stop(int mode, ScionReply reply, uint32_t earliest, uint32_t latest) {
-    const char *call = in_mode(&calls[JOURNEY], mode)->name;
-    if (reply.number != SCION_PASSED && reply.number != SCION_NOT_PASSED) {
-        if (reply.count != 0) fail(call, "a refusal with values");
-        return;
-    }
-    uint64_t stop[2];
-    uint64_t reading = arrives(mode, earliest, stop) ? SCION_READING_LATEST : SCION_READING_EARLIEST;
-    if (reading == SCION_READING_LATEST && arrives(mode, latest, stop)) {
-        if (reply.number != SCION_PASSED || reply.count != 0) fail(call, "a path that arrives is not just passed");
-        return;
-    }
-    if (reply.number != SCION_NOT_PASSED) fail(call, "a path that does not arrive is passed");
-    if (reply.count != 3 || reply.values[0] != stop[0] || reply.values[1] != stop[1] || reply.values[2] != reading)
-        fail(call, "the journey stops elsewhere");
-    size_t numbers = sizeof stop_numbers - (mode != SECOND);
-    if (memchr(stop_numbers, (int)stop[1], numbers) == NULL) fail(call, "a number that no journey stops by");
-    if (reading == SCION_READING_LATEST && stop[1] != SCION_SEGMENT_EXPIRED)
-        fail(call, "a later reading, and the hop has not expired");
-    if (mode != FIRST) stop_counts[mode == SECOND][reading][stop[1]]++;
-}
-
-static void report_stops(int mode) {
-    const char *call = in_mode(&calls[JOURNEY], mode)->name;
-    printf("%s stops by:", call);
-    for (size_t i = 0; i < sizeof stop_numbers - (mode != SECOND); i++) {
-        uint64_t count = stop_counts[mode == SECOND][SCION_READING_EARLIEST][stop_numbers[i]];
-        printf(" %u x %llu", stop_numbers[i], (unsigned long long)count);
-        if (count == 0) fail(call, "no journey stops by one of the numbers");
-    }
-    uint64_t late = stop_counts[mode == SECOND][SCION_READING_LATEST][SCION_SEGMENT_EXPIRED];
-    printf("; with every clock at the latest reading: %llu\n", (unsigned long long)late);
-    if (late == 0) fail(call, "no journey stops at the latest reading");
-}
-
-// ---- the journey check
-
 static uint64_t shared_verdicts[2]; // how many paths that lie in the itinerary did not pass, and did
 
 static ScionReply make_check(int mode, const uint8_t *given_path, const uint8_t *given, uint32_t earliest,
@@ -683,7 +604,6 @@ static void fuzz_journey(void) {
             replies[mode] = reply;
         }
         if (mode != FIRST) check_reply(call, replies[mode]);
-        check_stop(mode, replies[mode], earliest, latest);
         if (!shared) continue;
         const uint8_t *given = place(&itinerary_room, itinerary, itinerary_length, true);
         check_same(call, replies[mode], make_check(mode, given + path_start, given, earliest, latest));
@@ -766,8 +686,6 @@ int main(int count, char **words) {
         fuzz_journey();
     }
     for (int i = 0; i < CALLS; i++) report(&calls[i]);
-    report_stops(PLAIN);
-    report_stops(SECOND);
     if (shared_verdicts[0] == 0 || shared_verdicts[1] == 0) fail("scion_check_journey", "a path in an itinerary");
     if (without_p == 0 || changed_by_p == 0) fail("editions", "no path without P, or none with it");
     printf("editions: %llu inputs without P, %llu with P that they answer otherwise\n", (unsigned long long)without_p,

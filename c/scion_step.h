@@ -10,8 +10,7 @@
  *   may overlap one another.
  * - `ids` is aligned as a uint16_t is.
  *
- * A call is thread-safe: it has no state. It allocates nothing, makes no system call and leaves errno alone. Of the C
- * library it asks for memset alone, which gcc and clang ask of a freestanding environment too. So calls
+ * A call is thread-safe: it has no state. It allocates nothing, makes no system call and leaves errno alone. So calls
  * may run on many threads at a time, and in signal handlers, as long as none writes what another one is given. A call
  * takes at most SCION_STEP_STACK bytes of stack.
  *
@@ -56,14 +55,11 @@ extern "C" {
  * has the version, so a program that makes the call does not link with an archive of another version. It returns
  * SCION_STEP_VERSION.
  */
-#define SCION_STEP_VERSION 3
-uint32_t scion_step_version_3(void);
+#define SCION_STEP_VERSION 2
+uint32_t scion_step_version_2(void);
 
-/*
- * The most bytes of stack that a call takes. The journey check takes most, 6,172 when it was measured, and then the whole
- * step, 2,860. Before version 3 this was 4096.
- */
-#define SCION_STEP_STACK 8192
+/* The most bytes of stack that a call takes. The whole step takes most: 2,860 when it was measured. */
+#define SCION_STEP_STACK 4096
 
 /* ---- what a call takes */
 
@@ -155,14 +151,7 @@ enum {
     SCION_EXPIRATION = 111,                  /* value: the time, 0 for a path without segments */
     SCION_SEGMENT_INDEX = 112,               /* values: the segment, whether the hop is its first, whether its last */
     SCION_PASSED = 120,
-    SCION_NOT_PASSED = 121                   /* values: the station where the journey stops, the number that its step
-                                                answers, one of the readings below */
-};
-
-/* What every clock reads in the journey that stops: the third value of SCION_NOT_PASSED. */
-enum {
-    SCION_READING_EARLIEST = 0,
-    SCION_READING_LATEST = 1                 /* with every clock at the earliest reading the path arrives */
+    SCION_NOT_PASSED = 121
 };
 
 /* Types of an SCMP error. */
@@ -230,10 +219,6 @@ ScionReply scion_calculate_segment_index(const uint8_t *path, size_t path_length
  * Whether the path travels over the itinerary's stations, whatever their clocks read from `earliest` to `latest`:
  * 2 to 4, 23 to 25, 120 or 121. Nothing is written.
  *
- * 121 says where the journey stops: at which station, counted from 0, and by which number of the whole step there, 5 to
- * 7, 9 to 12 or 14 to 18. In that journey every clock reads `earliest`; if the path arrives so, every clock reads
- * `latest`. The third value says which. The other answers have no values.
- *
  * An itinerary is records, named by their index. Numbers are big-endian, and a byte that is not named here is 0.
  *
  *     record 0    0-1 the first station
@@ -292,7 +277,7 @@ ScionReply scion_standard_path_egress_in_edition(bool is_second,
 
 /*
  * The journey check: 2 to 4, 23 to 25, 120 or 121. In the second edition a peering path has as many stations as hops,
- * and any other path with P is not passed. The number where a journey stops may then be 28, too.
+ * and any other path with P is not passed.
  */
 ScionReply scion_check_journey_in_edition(bool is_second,
                                           const uint8_t *path, size_t path_length,

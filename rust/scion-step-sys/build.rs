@@ -15,7 +15,7 @@ const ARCHIVE: &str = "../../target/staticlib/libexports.a";
 
 /// A function of this name and the version is in the archive. The linker has the last word on it, see src/lib.rs.
 const NAME: &str = "scion_step_version_";
-const VERSION: &str = "3";
+const VERSION: &str = "2";
 
 fn main() {
     println!("cargo:rerun-if-changed=build.rs");

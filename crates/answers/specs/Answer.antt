@@ -8,8 +8,6 @@ use Rattle.answers.specs.declared.LocalAsRoutingAction.{LocalAsRoutingAction}
 use Rattle.answers.specs.declared.LocalAsRoutingAction.TheVariants.{IngressSCMPHandleRequest, EgressSCMPHandleRequest, ForwardLocal}
 use Rattle.answers.specs.declared.AsRoutingAction.{AsRoutingAction}
 use Rattle.answers.specs.declared.AsRoutingAction.TheVariants.{Local, ForwardNextHop}
-use Rattle.answers.specs.declared.StepAnswer.{StepAnswer}
-use Rattle.answers.specs.declared.StepAnswer.TheVariants.{Action, Refused}
 use Rattle.answers.specs.declared.StandardRoutingError.{StandardRoutingError}
 use Rattle.answers.specs.declared.StandardRoutingError.TheVariants.{UnsoundTable, HeaderFailed, AdvanceFailed, InvalidIngressInterface, InvalidEgressInterface, FutureTimestamp, SegmentExpired, UnknownIngressInterface, UnknownEgressInterface, InvalidMacError, InvalidSegmentChange, EgressInterfaceDown, InvalidScmpAlert}
 
@@ -87,9 +85,3 @@ local_values (EgressSCMPHandleRequest interface) = interface ∷ []
 abbrev pub action_values : AsRoutingAction → List ℕ
 action_values (ForwardNextHop interface) = interface ∷ []
 action_values (Local action) = local_values action
-
--- ---- what the step answers
-
-abbrev pub step_number : StepAnswer → ℕ
-step_number (Action action) = action_number action
-step_number (Refused why) = refusal_number why

@@ -1,11 +1,9 @@
 // The number of an answer, and the values that it carries, for whoever has to write them down: 01's for a refusal.
 ghost use Rattle.std.specs.Prelude.{◌≡◌, length};
 ghost use Rattle.answers.specs.Answer.{advance_number, refusal_number, flag, four_values, advance_values, refusal_values};
-ghost use Rattle.answers.specs.Answer.{local_number, action_number, local_values, action_values, step_number};
+ghost use Rattle.answers.specs.Answer.{local_number, action_number, local_values, action_values};
 
-use crate::{
-    AdvanceError, AsRoutingAction, LocalAsRoutingAction, StandardRoutingError, StepAnswer,
-};
+use crate::{AdvanceError, AsRoutingAction, LocalAsRoutingAction, StandardRoutingError};
 use standard_path::view;
 
 // ---- the number
@@ -221,16 +219,5 @@ pub fn action_value_count(action: AsRoutingAction) -> u8
     match action {
         AsRoutingAction::ForwardNextHop { .. } => 1,
         AsRoutingAction::Local(action) => local_value_count(action),
-    }
-}
-
-// ---- what the step answers
-
-pub fn step_number(answer: StepAnswer) -> u8
-    ensures { result ≡ step_number answer }
-{
-    match answer {
-        StepAnswer::Action(action) => action_number(action),
-        StepAnswer::Refused(why) => refusal_number(why),
     }
 }

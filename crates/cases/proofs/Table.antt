@@ -26,13 +26,12 @@ use Rattle.answers.specs.Answer.{refusal_number, refusal_values}
 use Rattle.answers.specs.declared.LocalAsRoutingAction.TheVariants.{IngressSCMPHandleRequest, EgressSCMPHandleRequest, ForwardLocal}
 use Rattle.answers.specs.declared.AsRoutingAction.TheVariants.{Local, ForwardNextHop}
 use Rattle.answers.specs.declared.IngressNextAction.{IngressNextAction}
-use Rattle.answers.specs.declared.StandardRoutingError.TheVariants.{InvalidMacError, SegmentExpired}
+use Rattle.answers.specs.declared.StandardRoutingError.TheVariants.{InvalidMacError}
 use Rattle.answers.specs.declared.StepAnswer.{StepAnswer}
 use Rattle.answers.specs.declared.StepAnswer.TheVariants.{Action, Refused}
 use Rattle.edition.specs.declared.Edition.TheVariants.{First}
 use Rattle.answers.specs.Outcome.{Outcome}
-use Rattle.beta_steps.specs.BetaSteps.{stepped}
-use Rattle.moves.specs.Moves.{ingress_move, egress_move}
+use Rattle.moves.specs.Moves.{stepped, ingress_move, egress_move}
 use Rattle.ingress.specs.Ingress.{ingress_action, ingress}
 use Rattle.egress.specs.Egress.{leaving_action, egress}
 use Rattle.routing.specs.Step.{step_from, step}
@@ -45,19 +44,13 @@ use Rattle.station.specs.Station.{Station, station_with}
 use Rattle.itinerary.specs.Itinerary.{stations_of, stations, tables_sound, arrivals_fit, plan_fits, itinerary_fits}
 use Rattle.journey_questions.specs.Lengths.{lengths_fit}
 use Rattle.journey.specs.Check.{segment_passes, joint_passes, passes}
-use Rattle.segment_chain.specs.Chain.{macs_from, chained_seg_id}
-use Rattle.segment_check.specs.Segment.{each_below, segment_fits}
+use Rattle.segment_check.specs.Segment.{each_below, macs_from, chained_seg_id, segment_fits}
 use Rattle.hop_check.specs.Hop.{mac_fits, arrives_by, leaves_by, hop_fits}
 use Rattle.journey_questions.specs.Questions.{questions, quiet}
 use Rattle.journey.specs.Verdict.{journey_check}
 use Rattle.journey_questions.specs.declared.answer.Verdict.{Verdict}
-use Rattle.journey_questions.specs.declared.answer.Reading.{Reading}
-use Rattle.journey_questions.specs.declared.answer.Reading.TheVariants.{Earliest, Latest}
-use Rattle.journey_questions.specs.declared.answer.Stop.{Stop}
 use Rattle.journey_questions.specs.declared.answer.Verdict.TheVariants.{Passed, NotPassed}
-use Rattle.station_step.specs.StationStep.{step_at}
-use Rattle.journey.specs.Stop.{stop_of, stop}
-use Rattle.journey.specs.Journey.{goes_on, journey, delivers, ended_well, arrives}
+use Rattle.journey.specs.Journey.{step_at, goes_on, journey, delivers, ended_well, arrives}
 use Rattle.cases.proofs.Macs.{key, mac_down_0, mac_down_1, mac_down_2, mac_up, mac_other, mac_next, mac_last}
 
 -- ---- the AS
@@ -273,30 +266,6 @@ refused_at_lower : step_at First lower 1337 (passed_on 0x16) ≡ outcome (Refuse
 unfolding went step_at lower
 refused_at_lower = rw mac_last
 
--- F-1: with every clock at the earliest reading, and at one that is too late for the first station
-delivers_early : step_at First lower 1000 (passed_on 0x15) ≡ outcome (Action (Local ForwardLocal)) (passed_on 0x15)
-unfolding went step_at lower
-delivers_early = rw mac_last
-
-refused_early : step_at First lower 1000 (passed_on 0x16) ≡ outcome (Refused (InvalidMacError 1 0xd1460ce3b115 0xd1460ce3b116)) (passed_on 0x16)
-unfolding went step_at lower
-refused_early = rw mac_last
-
-refused_late : step_at First upper 1338 (two_hops 0x15) ≡ outcome (Refused (SegmentExpired 0)) (two_hops 0x15)
-unfolding went step_at upper
-refused_late = refl
-
-abbrev stop_at_lem : ℕ → ℕ → Reading → Stop
-stop_at_lem station number reading = record { station = station; number = number; reading = reading }
-
-stops_early : stop First (upper ∷ lower ∷ []) 1000 1337 (two_hops 0x16) ≡ stop_at_lem 1 12 Earliest
-unfolding goes_on journey delivers ended_well arrives stop_of stop
-stops_early = rw (at_upper 0x16, refused_early)
-
-stops_late : stop First (upper ∷ lower ∷ []) 1000 1338 (two_hops 0x15) ≡ stop_at_lem 0 11 Latest
-unfolding goes_on journey delivers ended_well arrives stop_of stop
-stops_late = rw (at_upper 0x15, delivers_early, refused_late)
-
 -- what the check holds against them
 check_passes : passes First (upper ∷ lower ∷ []) 1000 1337 (two_hops 0x15) ≡ true
 unfolding compared
@@ -305,10 +274,6 @@ check_passes = rw (mac_down_0, mac_last)
 check_fails : passes First (upper ∷ lower ∷ []) 1000 1337 (two_hops 0x16) ≡ false
 unfolding compared
 check_fails = rw (mac_down_0, mac_last)
-
-check_fails_late : passes First (upper ∷ lower ∷ []) 1000 1338 (two_hops 0x15) ≡ false
-unfolding compared
-check_fails_late = refl
 
 there : gets_there (two_hops 0x15) ≡ true
 unfolding goes_on journey delivers ended_well arrives
@@ -380,12 +345,8 @@ pub record Table : Type 0 where
       ≡ outcome (Action (Local (EgressSCMPHandleRequest 1))) (down 0x02 0xbf 0x7b 0x00)
   -- a journey: let through, it arrives, and the check passes it
   pub row_arrives : (let_through (two_hops 0x15) ≡ true) × (gets_there (two_hops 0x15) ≡ true) × (checked (two_hops 0x15) ≡ Passed)
-  -- with another last MAC: let through, it does not arrive, and the check does not pass it: station 1, by 12
-  pub row_fails : (let_through (two_hops 0x16) ≡ true)
-      × (gets_there (two_hops 0x16) ≡ false)
-      × (checked (two_hops 0x16) ≡ NotPassed (stop_at_lem 1 12 Earliest))
-  -- with a latest reading behind its end: station 0, by 11, with every clock at that reading
-  pub row_late : journey_check First narrow plan 1000 1338 (two_hops 0x15) ≡ NotPassed (stop_at_lem 0 11 Latest)
+  -- with another last MAC: let through, it does not arrive, and the check does not pass it
+  pub row_fails : (let_through (two_hops 0x16) ≡ true) × (gets_there (two_hops 0x16) ≡ false) × (checked (two_hops 0x16) ≡ NotPassed)
 
 pub table : Table
 unfolding went turned asked
@@ -408,6 +369,5 @@ table = record {
   row_ingress_alert = rw mac_down_1;
   row_egress_alert = rw mac_down_1 (rw mac_down_1);
   row_arrives = (refl, there, rw check_passes);
-  row_fails = (refl, not_there, rw (check_fails, stops_early));
-  row_late = rw (check_fails_late, stops_late);
+  row_fails = (refl, not_there, rw check_fails);
 }

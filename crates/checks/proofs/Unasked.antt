@@ -14,7 +14,7 @@ use Rattle.validator.specs.declared.StandardValidator.{StandardValidator}
 use Rattle.validator.proofs.Unasked.{mac_unasked, hop_unasked}
 use Rattle.edition.specs.declared.Edition.{Edition}
 use Rattle.place.specs.Place.{hop, info, next_hop, next_info}
-use Rattle.beta_steps.specs.BetaSteps.{ingress_seg_id}
+use Rattle.moves.specs.Moves.{ingress_seg_id}
 use Rattle.checks.specs.Checks.{next_field_questions, next_questions, ingress_questions, egress_questions}
 
 module _ (mac : MacFunction) (at : StandardValidator) (ignored : at.ignore_macs ≡ true) (path : List ℕ)

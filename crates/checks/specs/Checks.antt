@@ -8,7 +8,7 @@ use Rattle.validator.specs.Check.{MacFunction, field_questions, mac_questions, h
 use Rattle.validator.specs.declared.StandardValidator.{StandardValidator}
 use Rattle.edition.specs.declared.Edition.{Edition}
 use Rattle.place.specs.Place.{hop, info, next_hop, next_info}
-use Rattle.beta_steps.specs.BetaSteps.{ingress_seg_id}
+use Rattle.moves.specs.Moves.{ingress_seg_id}
 
 -- ---- ingress: 9 to 12, and at a segment change 13 to 16 and 9 to 12 for the next hop
 

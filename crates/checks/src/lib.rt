@@ -67,7 +67,7 @@ fn validate_checked(
         hop_index,
         view::curr_hop_field(path),
         view::curr_info_field(path),
-        beta_steps::ingress_segment_id(edition, path, at.current_interface_id),
+        moves::ingress_segment_id(edition, path, at.current_interface_id),
     );
     let Validation::Valid = here else {
         return here;

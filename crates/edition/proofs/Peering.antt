@@ -12,7 +12,7 @@ use Rattle.octets.proofs.Bools.{first_of, second_of}
 use Rattle.standard_path.specs.Meta.{seg0_len, seg1_len, seg2_len}
 use Rattle.fields.specs.Fields.{peering}
 use Rattle.standard_path.specs.Header.{infos, info_field}
-use Rattle.standard_path.proofs.Kept.{SameLengths, infos_same, Kept, lengths_kept}
+use Rattle.standard_path.proofs.Kept.{Kept, infos_kept}
 use Rattle.answers.specs.Questions.{first_no}
 use Rattle.answers.specs.declared.AdvanceError.TheVariants.{MisplacedPeering}
 use Rattle.answers.specs.declared.StandardRoutingError.TheVariants.{AdvanceFailed}
@@ -51,12 +51,12 @@ pub infos_of_two : (path : List ℕ) → eqb (seg0_len path) 0 ≡ false → eqb
 unfolding infos
 infos_of_two path p q = two_of_three (seg0_len path) (seg1_len path) (seg2_len path) (some_of (seg0_len path) p) (some_of (seg1_len path) q)
 
-module _ {path after : List ℕ} (same : SameLengths path after)
+module _ {path after : List ℕ} (kept : Kept path after)
     (flags : (i : ℕ) → i < infos path → peering (info_field after i) ≡ peering (info_field path i)) where
   pub peering_form_kept : peering_form after ≡ peering_form path
   unfolding peering_form
   peering_form_kept =
-      rw (same.seg0, same.seg1, same.seg2)
+      rw (kept.seg0, kept.seg1, kept.seg2)
       (go (eqb (seg0_len path) 0) refl (eqb (seg1_len path) 0) refl (eqb (seg2_len path) 0))
     where
       go : (none0 : Bool) → eqb (seg0_len path) 0 ≡ none0 → (none1 : Bool) → eqb (seg1_len path) 0 ≡ none1 → (none2 : Bool)
@@ -69,7 +69,7 @@ module _ {path after : List ℕ} (same : SameLengths path after)
           let l = infos_of_two path p q in rw (flags 0 (omega (arith, l)), flags 1 l)
 
   flagged_kept : (i : ℕ) → flagged after i ≡ flagged path i
-  flagged_kept i = rw (infos_same same) (go (ltb i (infos path)) refl)
+  flagged_kept i = rw (infos_kept kept) (go (ltb i (infos path)) refl)
     where
       go : (there : Bool) → ltb i (infos path) ≡ there
           → (there && peering (info_field after i)) ≡ (there && peering (info_field path i))
@@ -94,7 +94,7 @@ module _ {path after : List ℕ} (same : SameLengths path after)
 
   -- whether hop h is a peering hop
   pub peering_hop_kept : (edition : Edition) (h : ℕ) → peering_hop edition after h ≡ peering_hop edition path h
-  peering_hop_kept edition h = rw (peering_path_kept edition, same.seg0)
+  peering_hop_kept edition h = rw (peering_path_kept edition, kept.seg0)
 
 -- ---- no peering path, and 28's rule kept: nothing that the editions decide differently
 
@@ -105,8 +105,8 @@ pub record Plain (path : List ℕ) : Type 0 where
 pub plain_kept : {path after : List ℕ} → Kept path after
     → ((i : ℕ) → i < infos path → peering (info_field after i) ≡ peering (info_field path i)) → Plain path → Plain after
 plain_kept kept flags plain = record {
-  none = peering_form_kept (lengths_kept kept) flags ∙ plain.none;
-  placed = placed_kept (lengths_kept kept) flags ∙ plain.placed;
+  none = peering_form_kept kept flags ∙ plain.none;
+  placed = placed_kept kept flags ∙ plain.placed;
 }
 
 -- a path without P

@@ -13,7 +13,7 @@ ghost use Rattle.routing.specs.Step.{step};
 ghost use Rattle.records.specs.Layout.{narrow};
 ghost use Rattle.journey.specs.Verdict.{journey_check};
 ghost use Rattle.reply.specs.Reply.{step_reply, ingress_reply, reversal_reply, expiration_reply, segment_reply, journey_reply};
-ghost use Rattle.exports.specs.Journey.{SaysWhatTravels, SaysWhatStops};
+ghost use Rattle.exports.specs.Journey.{SaysWhatTravels};
 
 use edition::Edition;
 use journey_check::verdict;
@@ -23,10 +23,10 @@ use routing::step;
 // The version of these calls, which each change to one of them or to what it answers raises. The name has it too: a program that
 // asks for it does not link with an archive of another version.
 #[unsafe(no_mangle)]
-pub extern "C" fn scion_step_version_3() -> u32
-    ensures { result ≡ 3 }
+pub extern "C" fn scion_step_version_2() -> u32
+    ensures { result ≡ 2 }
 {
-    3
+    2
 }
 
 // ---- the step
@@ -151,7 +151,6 @@ pub extern "C" fn scion_check_journey(
 ) -> Reply
     ensures value { result ≡ journey_reply (journey_check First narrow itinerary.now earliest latest path.now) }
     ensures says_what_travels { SaysWhatTravels First narrow itinerary.now earliest latest path.now result.number }
-    ensures says_what_stops { SaysWhatStops First narrow itinerary.now earliest latest path.now result }
 {
     reply::journey_reply(verdict::check_journey(Edition::First, path, itinerary, earliest, latest))
 }

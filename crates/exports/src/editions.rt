@@ -8,7 +8,7 @@ ghost use Rattle.routing.specs.Step.{step};
 ghost use Rattle.records.specs.Layout.{narrow};
 ghost use Rattle.journey.specs.Verdict.{journey_check};
 ghost use Rattle.reply.specs.Reply.{step_reply, ingress_reply, journey_reply};
-ghost use Rattle.exports.specs.Journey.{SaysWhatTravels, SaysWhatStops};
+ghost use Rattle.exports.specs.Journey.{SaysWhatTravels};
 
 use edition::edition_of;
 use journey_check::verdict;
@@ -114,7 +114,6 @@ pub extern "C" fn scion_check_journey_in_edition(
         path.now) }
     ensures says_what_travels { SaysWhatTravels (edition_of is_second) narrow itinerary.now earliest latest path.now
         result.number }
-    ensures says_what_stops { SaysWhatStops (edition_of is_second) narrow itinerary.now earliest latest path.now result }
 {
     reply::journey_reply(verdict::check_journey(
         edition_of(is_second),

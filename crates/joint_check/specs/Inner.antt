@@ -9,7 +9,7 @@ use Rattle.records.specs.Layout.{Layout}
 use Rattle.records.specs.Records.{station_records}
 use Rattle.station.specs.Station.{station_at}
 use Rattle.hop_check.specs.Hop.{arrives_by, leaves_by}
-use Rattle.segment_chain.specs.Chain.{start_of, count_of, hop_of}
+use Rattle.segment_check.specs.Segment.{start_of, count_of, hop_of}
 use Rattle.joint_check.specs.Joint.{change_fits}
 
 abbrev pub joint_fits_from : Edition → Layout → List ℕ → ℕ → List ℕ → ℕ → Bool

@@ -11,7 +11,7 @@ use edition::Edition;
 use hop_check::{arrives_by, leaves_by};
 use interface_table::Listed;
 use records::form::Form;
-use segment_chain::hops;
+use segment_check::hops;
 use standard_path::view;
 use station::{lookup, station_record};
 

@@ -11,9 +11,8 @@ use Rattle.octets.proofs.Bools.{both, each_of}
 use Rattle.standard_path.specs.Header.{hops}
 use Rattle.edition.specs.declared.Edition.{Edition}
 use Rattle.station.specs.Station.{Station}
-use Rattle.segment_chain.specs.Chain.{start_of, count_of}
-use Rattle.station_step.specs.StationStep.{StationStep}
-use Rattle.journey.specs.Journey.{goes_on, some_left, or_ends, journey, delivers, ended_well}
+use Rattle.segment_check.specs.Segment.{start_of, count_of}
+use Rattle.journey.specs.Journey.{StationStep, goes_on, some_left, or_ends, journey, delivers, ended_well}
 use Rattle.journey.proofs.Stands.{Stands, arriving_seg_id}
 use Rattle.journey.proofs.Hops.{Hop, inner, over, start_next, Kind, middle, last, joint, kind, is_last, hop_ahead, hop_across}
 use Rattle.journey.proofs.Steps.{Given, Reached}

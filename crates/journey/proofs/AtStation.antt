@@ -33,16 +33,14 @@ use Rattle.routing_laws.proofs.Whole.{step_asks}
 use Rattle.moves.specs.Moves.{egress_move}
 use Rattle.station.specs.Station.{Station}
 use Rattle.hop_check.specs.Hop.{leaves_by}
-use Rattle.segment_chain.specs.Chain.{start_of, count_of, hop_of}
-use Rattle.station_step.specs.StationStep.{step_at}
-use Rattle.journey.specs.Journey.{goes_on, delivers}
+use Rattle.segment_check.specs.Segment.{start_of, count_of, hop_of}
+use Rattle.journey.specs.Journey.{step_at, goes_on, delivers}
 use Rattle.journey.proofs.Yes.{yes_valid, through, passed_through}
 use Rattle.journey.proofs.Stands.{Stands, arriving_seg_id, leaves, leaves_over}
 use Rattle.journey.proofs.Hops.{Hop, Onward, inner, over, next_segment, next_place, Kind, middle, last, joint, inner_stays, over_crosses, over_peer, over_before, inside_first, start_next, next_in_header, before_end}
 use Rattle.journey.proofs.Steps.{Given, Reached, before_asked, hop_tests, link_tests, leaving_tests, way_of, change_tests, entered_at, crossed_at, forwarded, inside_then, leaving_then, middle_step, last_step, joint_step, inside, quiet_here, stands_after, quiet_next, behind, stands_crossed}
 use Rattle.journey.proofs.FirstStation.{first_three, eights, begun, eights_yes, first_hop}
-use Rattle.journey.specs.Stop.{stop_numbers}
-use Rattle.journey.proofs.Stops.{refused_with, first_refused, peering_refused, Or, or_through}
+use Rattle.journey.proofs.Stops.{stop_numbers, refused_with, first_refused, peering_refused, Or, or_through}
 use Rattle.journey.proofs.Laws.{hop_good, way_good, change_good, Answered, Laws, Crossing, crossing}
 
 up_is_listed : (listed : Listed) → (is_listed listed && (is_up_listed listed && true)) ≡ is_up_listed listed

@@ -17,8 +17,7 @@ use Rattle.records.specs.Layout.{Layout}
 use Rattle.station.specs.Station.{Station}
 use Rattle.itinerary.specs.Itinerary.{stations}
 use Rattle.journey_questions.specs.declared.answer.Verdict.TheVariants.{Passed, Refused}
-use Rattle.station_step.specs.StationStep.{StationStep, step_at}
-use Rattle.journey.specs.Journey.{journey, arrives}
+use Rattle.journey.specs.Journey.{StationStep, step_at, journey, arrives}
 use Rattle.journey_questions.specs.Questions.{questions}
 use Rattle.journey.specs.Verdict.{journey_check}
 use Rattle.journey.proofs.Lengths.{linked_infos}

@@ -18,13 +18,10 @@ use Rattle.edition.specs.declared.Edition.{Edition}
 use Rattle.records.specs.Layout.{Layout}
 use Rattle.station.specs.Station.{Station}
 use Rattle.itinerary.specs.Itinerary.{stations}
-use Rattle.journey_questions.specs.declared.answer.Stop.{Stop}
 use Rattle.journey_questions.specs.declared.answer.Verdict.TheVariants.{Passed, NotPassed, Refused}
-use Rattle.segment_chain.specs.Chain.{chained_seg_id, macs_from}
+use Rattle.segment_check.specs.Segment.{chained_seg_id, macs_from}
 use Rattle.journey.specs.Check.{no_station, passes}
-use Rattle.station_step.specs.StationStep.{StationStep}
-use Rattle.journey.specs.Journey.{journey, ended_well, arrives, Readings, Travels}
-use Rattle.journey.specs.Stop.{stop}
+use Rattle.journey.specs.Journey.{StationStep, journey, ended_well, arrives, Readings, Travels}
 use Rattle.journey.specs.Verdict.{Demand3}
 use Rattle.journey_questions.specs.Questions.{questions}
 use Rattle.journey.specs.Verdict.{journey_check}
@@ -182,13 +179,12 @@ pub demand_3 : (edition : Edition) (layout : Layout) (itinerary : List ℕ) (ear
 unfolding Demand3 journey_check
 demand_3 edition layout itinerary earliest latest path e =
     let verdict = asks_yes Refused (questions edition layout itinerary earliest latest path)
-    (cond (passes edition (stations layout itinerary) earliest latest path) Passed
-    (NotPassed (stop edition (stations layout itinerary) earliest latest path))) e in
+    (cond (passes edition (stations layout itinerary) earliest latest path) Passed NotPassed) e in
     let theorem = check_travels (at_station edition) (asked edition layout itinerary earliest latest path e) in (
-      (λ q. theorem.0 (passed_is (passes edition (stations layout itinerary) earliest latest path) _ (sym verdict ∙ q))),
+      (λ q. theorem.0 (passed_is (passes edition (stations layout itinerary) earliest latest path) (sym verdict ∙ q))),
       (λ t. verdict ∙ rw (theorem.1 t)),
     )
   where
-    passed_is : (b : Bool) (given : Stop) → cond b Passed (NotPassed given) ≡ Passed → b ≡ true
-    passed_is true given q = refl
-    passed_is false given q = let z : ◌≡◌ {A = ℕ} 0 1 = cc in absurd (omega arith)
+    passed_is : (b : Bool) → cond b Passed NotPassed ≡ Passed → b ≡ true
+    passed_is true q = refl
+    passed_is false q = let z : ◌≡◌ {A = ℕ} 0 1 = cc in absurd (omega arith)

@@ -16,15 +16,11 @@ use Rattle.routing.proofs.Moved.{step_holds}
 use Rattle.routing_laws.proofs.Editions.{step_agrees}
 use Rattle.records.specs.Layout.{Layout}
 use Rattle.station.specs.Station.{Station}
-use Rattle.itinerary.specs.Itinerary.{stations}
-use Rattle.segment_chain.specs.Chain.{start_of, count_of, hop_of}
-use Rattle.segment_check.specs.Segment.{segment_fits}
+use Rattle.segment_check.specs.Segment.{start_of, count_of, hop_of, segment_fits}
 use Rattle.journey.specs.Check.{no_station, segment_passes, joint_passes, passes}
 use Rattle.journey.specs.Verdict.{journey_check}
 use Rattle.segment_check.proofs.All.{all_same}
-use Rattle.station_step.specs.StationStep.{step_at}
-use Rattle.journey.specs.Journey.{goes_on, some_left, or_ends, journey, arrives}
-use Rattle.journey.specs.Stop.{clocks_at, stop}
+use Rattle.journey.specs.Journey.{step_at, goes_on, some_left, or_ends, journey}
 
 pub journey_agrees : (k : ℕ) (stations : List Station) (readings path : List ℕ) → Plain path
     → journey (step_at Second) k stations readings path ≡ journey (step_at First) k stations readings path
@@ -59,15 +55,8 @@ module _ (stations : List Station) (path : List ℕ) (plain : Plain path) where
   passes_agrees earliest latest =
       rw (plain.placed, plain.none, all_same (infos path) _ _ (λ s h. segment_agrees earliest latest s), all_same (infos path - 1) _ _ (λ s h. joint_agrees s))
 
--- so the two runs end alike
-pub stop_agrees : (route : List Station) (earliest latest : ℕ) (path : List ℕ) → Plain path
-    → stop Second route earliest latest path ≡ stop First route earliest latest path
-unfolding stop arrives
-stop_agrees route earliest latest path plain =
-    rw (journey_agrees 0 route (clocks_at route earliest) path plain, journey_agrees 0 route (clocks_at route latest) path plain)
-
 pub check_agrees : (layout : Layout) (itinerary : List ℕ) (earliest latest : ℕ) (path : List ℕ) → Plain path
     → journey_check Second layout itinerary earliest latest path ≡ journey_check First layout itinerary earliest latest path
 unfolding journey_check
 check_agrees layout itinerary earliest latest path plain =
-    rw (plain.none, passes_agrees _ path plain earliest latest, stop_agrees (stations layout itinerary) earliest latest path plain)
+    rw (plain.none, passes_agrees _ path plain earliest latest)

@@ -12,15 +12,13 @@ use Rattle.standard_path.specs.Header.{infos, hops}
 use Rattle.edition.specs.declared.Edition.{Edition}
 use Rattle.edition.specs.Edition.{peering_path}
 use Rattle.station.specs.Station.{Station}
-use Rattle.segment_chain.specs.Chain.{start_of}
-use Rattle.station_step.specs.StationStep.{StationStep}
-use Rattle.journey.specs.Journey.{Ended, nowhere, ended_at, goes_on, journey, ended_well}
+use Rattle.segment_check.specs.Segment.{start_of}
+use Rattle.journey.specs.Journey.{StationStep, Ended, nowhere, ended_at, goes_on, journey, ended_well}
 use Rattle.journey.proofs.Stands.{Stands, arriving_seg_id}
 use Rattle.journey.proofs.Hops.{Hop, Kind, kind, is_last, in_header}
 use Rattle.journey.proofs.Lengths.{hops_enough, Enough}
 use Rattle.journey.proofs.Steps.{Given}
-use Rattle.journey.specs.Stop.{stop_numbers}
-use Rattle.journey.proofs.Stops.{refused_with, refused_stays, refused_undelivered}
+use Rattle.journey.proofs.Stops.{stop_numbers, refused_with, refused_stays, refused_undelivered}
 use Rattle.journey.proofs.Laws.{good, segment_behind, place_behind, Answered, Laws}
 use Rattle.journey.proofs.Along.{AllReached, reached_later, at_end, hop_behind, later_behind, well_last}
 use Rattle.journey.proofs.Facts.{index_behind}

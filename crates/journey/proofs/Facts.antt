@@ -12,7 +12,7 @@ use Rattle.standard_path.specs.Header.{infos, hops}
 use Rattle.edition.specs.declared.Edition.{Edition}
 use Rattle.edition.specs.Edition.{peering_path}
 use Rattle.station.specs.Station.{Station}
-use Rattle.segment_chain.specs.Chain.{start_of, count_of}
+use Rattle.segment_check.specs.Segment.{start_of, count_of}
 use Rattle.segment_check.proofs.All.{at_most_three}
 use Rattle.journey_questions.specs.Lengths.{shared}
 use Rattle.journey.specs.Check.{no_station}

@@ -20,7 +20,7 @@ use Rattle.answers.proofs.Asked.{both_yes, none_asked}
 use Rattle.edition.specs.declared.Edition.{Edition}
 use Rattle.edition.specs.Edition.{peering_path, peering_questions}
 use Rattle.place.specs.Place.{segment, ends, is_peering_hop, alone, changes}
-use Rattle.segment_chain.specs.Chain.{count_of}
+use Rattle.segment_check.specs.Segment.{count_of}
 use Rattle.journey.proofs.Hops.{Hop}
 
 -- 5, 6 and 7; then 8, and 28

@@ -19,7 +19,7 @@ use Rattle.edition.specs.Edition.{peering_path, first_peering_hop, peering_quest
 use Rattle.edition.proofs.Peering.{Peering, peering_lengths}
 use Rattle.place.specs.Place.{segment, starts, ends, is_final, is_peering_hop, crosses, changes, ingress_place}
 use Rattle.routing.proofs.Inside.{inside_questions}
-use Rattle.segment_chain.specs.Chain.{start_of, count_of, peering_hop_of}
+use Rattle.segment_check.specs.Segment.{start_of, count_of, peering_hop_of}
 use Rattle.journey.proofs.Yes.{is_valid, valid_yes}
 use Rattle.journey.proofs.Stands.{Stands, peering_path_here, fits_here, peer_here, crosses_here}
 

@@ -18,14 +18,12 @@ use Rattle.answers.specs.Outcome.{Outcome}
 use Rattle.edition.specs.declared.Edition.{Edition}
 use Rattle.station.specs.Station.{Station}
 use Rattle.hop_check.specs.Hop.{leaves_by}
-use Rattle.segment_chain.specs.Chain.{start_of, count_of, hop_of}
-use Rattle.station_step.specs.StationStep.{StationStep}
-use Rattle.journey.specs.Journey.{goes_on, delivers}
+use Rattle.segment_check.specs.Segment.{start_of, count_of, hop_of}
+use Rattle.journey.specs.Journey.{StationStep, goes_on, delivers}
 use Rattle.journey.proofs.Stands.{Stands, arriving_seg_id}
 use Rattle.journey.proofs.Hops.{Hop, next_segment, next_place, Kind, middle, last, joint, is_last}
 use Rattle.journey.proofs.Steps.{Given, Reached, hop_tests, link_tests}
-use Rattle.journey.specs.Stop.{stop_numbers}
-use Rattle.journey.proofs.Stops.{refused_with}
+use Rattle.journey.proofs.Stops.{stop_numbers, refused_with}
 
 -- ---- what is tested
 

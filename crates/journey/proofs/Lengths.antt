@@ -16,7 +16,7 @@ use Rattle.answers.specs.declared.Validation.TheVariants.{Valid}
 use Rattle.edition.specs.declared.Edition.{Edition}
 use Rattle.edition.specs.Edition.{peering_path, peering_questions}
 use Rattle.station.specs.Station.{Station}
-use Rattle.segment_chain.specs.Chain.{start_of, count_of}
+use Rattle.segment_check.specs.Segment.{start_of, count_of}
 use Rattle.journey_questions.specs.Lengths.{long_enough, lengths_fit, lengths_pass, shared}
 use Rattle.segment_check.proofs.All.{at_most_three}
 use Rattle.edition.proofs.Peering.{peering_lengths}

@@ -16,6 +16,4 @@ pub mod Ends
 pub mod Demand3
 pub mod Readings
 pub mod Consequences
-pub mod WhereItStops
-pub mod Behind
 pub mod Editions

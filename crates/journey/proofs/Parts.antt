@@ -19,8 +19,7 @@ use Rattle.edition.specs.declared.Edition.{Edition}
 use Rattle.edition.specs.Edition.{peering_path, peering_fits}
 use Rattle.station.specs.Station.{Station}
 use Rattle.hop_check.specs.Hop.{mac_fits, arrives_by, leaves_by, hop_fits}
-use Rattle.segment_chain.specs.Chain.{chained_seg_id, peering_hop_of, start_of, count_of, hop_of}
-use Rattle.segment_check.specs.Segment.{each_below, hop_fits_at, segment_fits}
+use Rattle.segment_check.specs.Segment.{each_below, chained_seg_id, hop_fits_at, segment_fits, peering_hop_of, start_of, count_of, hop_of}
 use Rattle.joint_check.specs.Joint.{change_fits}
 use Rattle.journey_questions.specs.Lengths.{lengths_pass, shared}
 use Rattle.journey.specs.Check.{no_station, station_of, segment_passes, joint_passes, passes}

@@ -16,8 +16,7 @@ use Rattle.writes.specs.Writes.{flags_at, without_ingress, without_egress, clear
 use Rattle.standard_path.proofs.Kept.{hop_byte}
 use Rattle.edition.specs.declared.Edition.{Edition}
 use Rattle.place.specs.Place.{is_peering_hop, crosses, hop, info}
-use Rattle.beta_steps.specs.BetaSteps.{stepped, steps_at_ingress, steps_at_egress}
-use Rattle.moves.specs.Moves.{ingress_fields, egress_move}
+use Rattle.moves.specs.Moves.{stepped, steps_at_ingress, ingress_fields, steps_at_egress, egress_move}
 use Rattle.moves.proofs.Touched.{stepped_hop}
 
 pub record Quiet (hop : List ℕ) : Type 0 where

@@ -26,8 +26,7 @@ use Rattle.validator.specs.Check.{key_mac}
 use Rattle.routing.proofs.Inside.{inside_questions}
 use Rattle.routing_laws.proofs.Whole.{step_asks, checks, leaving_checks}
 use Rattle.station.specs.Station.{Station}
-use Rattle.station_step.specs.StationStep.{StationStep, step_at}
-use Rattle.journey.specs.Journey.{ended_at, goes_on, some_left, or_ends, journey}
+use Rattle.journey.specs.Journey.{StationStep, step_at, ended_at, goes_on, some_left, or_ends, journey}
 
 -- an answer that egress gave, with its move done
 abbrev pub left_by_egress : StepAnswer → Bool

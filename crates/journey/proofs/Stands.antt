@@ -15,17 +15,16 @@ use Rattle.standard_path.specs.Meta.{curr_inf, curr_hf, set_curr_inf, set_curr_h
 use Rattle.fields.specs.Fields.{by_direction, cons_dir, seg_id, mac_field}
 use Rattle.standard_path.specs.Header.{infos, header_size, info_field, hop_field}
 use Rattle.hop_mac.proofs.HopMac.{chaining_append}
-use Rattle.standard_path.proofs.Kept.{Kept, lengths_kept, kept_trans, infos_kept}
+use Rattle.standard_path.proofs.Kept.{Kept, kept_trans, infos_kept}
 use Rattle.standard_path.proofs.IndexSet.{set_hf_kept, set_hf_hop, set_hf_info, set_inf_kept, set_inf_hop, set_inf_info, hf_after_hf, inf_after_hf, hf_after_inf, inf_after_inf}
 use Rattle.edition.specs.declared.Edition.{Edition}
 use Rattle.edition.specs.Edition.{peering_path, first_peering_hop, peering_questions}
 use Rattle.place.specs.Place.{is_peering_hop, crosses, hop, info}
-use Rattle.beta_steps.specs.BetaSteps.{stepped}
-use Rattle.moves.specs.Moves.{ingress_fields, egress_move}
+use Rattle.moves.specs.Moves.{stepped, ingress_fields, egress_move}
 use Rattle.edition.proofs.Peering.{peering_path_kept, questions_kept, peering_hop_kept}
 use Rattle.moves.proofs.Touched.{SameInfo, stepped_kept, stepped_inf, stepped_hf, stepped_hop, stepped_info, stepped_info_other, stepped_seg_id_lem}
-use Rattle.segment_chain.specs.Chain.{start_of, count_of, hop_of, peering_hop_of, macs_from, chained_seg_id}
-use Rattle.segment_chain.proofs.Chain.{chain_one_more}
+use Rattle.segment_check.specs.Segment.{start_of, count_of, hop_of, peering_hop_of, macs_from, chained_seg_id}
+use Rattle.segment_check.proofs.Chain.{chain_one_more}
 use Rattle.journey.proofs.Quiet.{Quiet, quiet_fields, quiet_egress_move}
 
 -- ---- the SegID of a segment
@@ -64,13 +63,13 @@ module _ {edition : Edition} {path mid : List ℕ} {t m value : ℕ} (s : Stands
 
   -- a path stays a peering path, or none, and 28 is answered alike
   pub peering_path_here : peering_path edition mid ≡ peering_path edition path
-  peering_path_here = peering_path_kept (lengths_kept s.kept) (λ i l. (s.info-same i).peer) edition
+  peering_path_here = peering_path_kept s.kept (λ i l. (s.info-same i).peer) edition
 
   pub fits_here : peering_questions edition mid ≡ peering_questions edition path
-  fits_here = questions_kept (lengths_kept s.kept) (λ i l. (s.info-same i).peer) edition
+  fits_here = questions_kept s.kept (λ i l. (s.info-same i).peer) edition
 
   pub peer_here : is_peering_hop edition mid ≡ peering_hop_of edition path t m
-  peer_here = rw s.hf (peering_hop_kept (lengths_kept s.kept) (λ i l. (s.info-same i).peer) edition (start_of path t + m))
+  peer_here = rw s.hf (peering_hop_kept s.kept (λ i l. (s.info-same i).peer) edition (start_of path t + m))
 
   pub crosses_here : crosses edition mid ≡ first_peering_hop edition path (start_of path t + m)
   crosses_here = rw (s.hf, peering_path_here, s.kept.seg0)

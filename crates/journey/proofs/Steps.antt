@@ -27,18 +27,17 @@ use Rattle.answers.specs.Outcome.{Outcome, leaves}
 use Rattle.edition.specs.declared.Edition.{Edition}
 use Rattle.edition.specs.Edition.{peering_path}
 use Rattle.place.specs.Place.{before, hop, info, next_hop, next_info}
-use Rattle.beta_steps.specs.BetaSteps.{ingress_seg_id}
-use Rattle.moves.specs.Moves.{ingress_fields, ingress_move, egress_move}
+use Rattle.moves.specs.Moves.{ingress_seg_id, ingress_fields, ingress_move, egress_move}
 use Rattle.ingress.specs.Ingress.{alerts_at_ingress}
 use Rattle.checks.specs.Checks.{ingress_questions}
 use Rattle.egress.specs.Egress.{leaving_action, egress_action}
-use Rattle.leaving.specs.Leaving.{leaving_questions}
+use Rattle.routing.specs.Step.{leaving_questions}
 use Rattle.moves.proofs.Touched.{ingress_fields_moved}
 use Rattle.routing.proofs.Inside.{inside_questions}
 use Rattle.routing_laws.proofs.Whole.{step_asks}
 use Rattle.station.specs.Station.{Station}
-use Rattle.segment_chain.specs.Chain.{start_of, count_of, hop_of, chained_seg_id, macs_from}
-use Rattle.station_step.specs.StationStep.{step_at}
+use Rattle.segment_check.specs.Segment.{start_of, count_of, hop_of, chained_seg_id, macs_from}
+use Rattle.journey.specs.Journey.{step_at}
 use Rattle.journey.proofs.Quiet.{Quiet, quiet_ingress, quiet_egress}
 use Rattle.journey.proofs.Stands.{Stands, checked_seg_id, arriving_seg_id, delivered_seg_id, hop_here, dir_here, info_among, info_room, enters, segments_on}
 use Rattle.journey.proofs.Hops.{Hop, Onward, middle, last, joint, placed, inside_onward, in_header, next_in_header, start_next, before_end}

@@ -23,9 +23,20 @@ use Rattle.edition.specs.declared.Edition.{Edition}
 use Rattle.edition.specs.declared.Edition.TheVariants.{First, Second}
 use Rattle.edition.specs.Edition.{peering_fits, peering_questions}
 use Rattle.journey.specs.Journey.{goes_on, delivers}
-use Rattle.journey.specs.Stop.{one_of, stop_numbers}
 
 -- ---- numbers
+
+abbrev pub one_of : ℕ → List ℕ → Bool
+one_of n [] = false
+one_of n (x ∷ xs) = eqb n x || one_of n xs
+
+-- those that a journey can stop with
+abbrev peering_numbers : Edition → List ℕ
+peering_numbers First = []
+peering_numbers Second = 28 ∷ []
+
+abbrev pub stop_numbers : Edition → List ℕ
+stop_numbers edition = 5 ∷ 6 ∷ 7 ∷ 9 ∷ 10 ∷ 11 ∷ 12 ∷ 14 ∷ 15 ∷ 16 ∷ 17 ∷ 18 ∷ peering_numbers edition
 
 abbrev pub within : List ℕ → List ℕ → Bool
 within [] more = true

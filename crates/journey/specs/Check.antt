@@ -8,8 +8,7 @@ use Rattle.edition.specs.declared.Edition.{Edition}
 use Rattle.edition.specs.Edition.{peering_path, peering_fits}
 use Rattle.station.specs.Station.{Station}
 use Rattle.hop_check.specs.Hop.{arrives_by, leaves_by}
-use Rattle.segment_chain.specs.Chain.{start_of, count_of, hop_of, peering_hop_of}
-use Rattle.segment_check.specs.Segment.{each_below, segment_fits}
+use Rattle.segment_check.specs.Segment.{each_below, start_of, count_of, hop_of, peering_hop_of, segment_fits}
 use Rattle.joint_check.specs.Joint.{change_fits}
 use Rattle.journey_questions.specs.Lengths.{lengths_pass, shared}
 

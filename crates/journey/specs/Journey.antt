@@ -7,8 +7,20 @@ use Rattle.answers.specs.declared.AsRoutingAction.TheVariants.{Local, ForwardNex
 use Rattle.answers.specs.declared.StepAnswer.{StepAnswer}
 use Rattle.answers.specs.declared.StepAnswer.TheVariants.{Action, Refused}
 use Rattle.answers.specs.Outcome.{Outcome}
+use Rattle.validator.specs.Check.{key_mac}
+use Rattle.routing.specs.Step.{step}
+use Rattle.edition.specs.declared.Edition.{Edition}
 use Rattle.station.specs.Station.{Station}
-use Rattle.station_step.specs.StationStep.{StationStep}
+
+-- what an AS does: at its station and its clock's reading, on the bytes that it gets
+abbrev pub StationStep : Type 0
+StationStep = Station → ℕ → List ℕ → Outcome StepAnswer
+
+-- 'the whole step on these bytes with that station's table, key, arrival interface and reading, MACs not ignored':
+-- the definition that the contract of `handle_standard_path` cites
+unfoldable pub step_at : Edition → StationStep
+step_at edition station reading path =
+    step edition station.ids station.states (key_mac station.key) station.arrival reading false path
 
 -- where a journey ended: the station, counted from 0, what it answered, and the bytes left. Nowhere, if there was no station to go to
 pub data Ended : Type 0 where

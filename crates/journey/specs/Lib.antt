@@ -1,4 +1,3 @@
 pub mod Journey
 pub mod Check
-pub mod Stop
 pub mod Verdict

@@ -1,25 +1,20 @@
--- The answer of the journey check: the questions, then the conditions of a pass, then where the journey stops. And demand 3 and F-1, which
--- it meets.
+-- The answer of the journey check: the questions, then the conditions of a pass. And demand 3, which it meets.
 -- Assumes nothing.
 use Rattle.std.specs.Prelude.{ℕ, ◌≡◌, true, cond, List, ◌↔◌}
 use Rattle.questions.specs.Questions.{asks, all_yes}
 use Rattle.edition.specs.declared.Edition.{Edition}
 use Rattle.records.specs.Layout.{Layout}
 use Rattle.itinerary.specs.Itinerary.{stations}
-use Rattle.journey_questions.specs.declared.answer.Stop.{Stop}
 use Rattle.journey_questions.specs.declared.answer.Verdict.{Verdict}
 use Rattle.journey_questions.specs.declared.answer.Verdict.TheVariants.{Passed, NotPassed, Refused}
 use Rattle.journey_questions.specs.Questions.{questions}
-use Rattle.station_step.specs.StationStep.{step_at}
-use Rattle.journey.specs.Journey.{Travels}
+use Rattle.journey.specs.Journey.{step_at, Travels}
 use Rattle.journey.specs.Check.{passes}
-use Rattle.journey.specs.Stop.{stop, Meets, one_of, stop_numbers}
 
 unfoldable pub journey_check : Edition → Layout → List ℕ → ℕ → ℕ → List ℕ → Verdict
 journey_check edition layout itinerary earliest latest path =
     asks Refused (questions edition layout itinerary earliest latest path)
-    (cond (passes edition (stations layout itinerary) earliest latest path) Passed
-    (NotPassed (stop edition (stations layout itinerary) earliest latest path)))
+    (cond (passes edition (stations layout itinerary) earliest latest path) Passed NotPassed)
 
 -- Demand 3, of a verdict: for each call that 2 to 4 and 23 to 25 let through it is passed exactly if the path travels.
 -- The check's definition, `journey_check`, meets it: `demand-3` in proofs/Demand3.antt. So does the check's code, by its contract.
@@ -27,14 +22,3 @@ unfoldable pub Demand3 : Edition → Layout → List ℕ → ℕ → ℕ → Lis
 Demand3 edition layout itinerary earliest latest path verdict =
     all_yes (questions edition layout itinerary earliest latest path) ≡ true
     → (verdict ≡ Passed) ↔ Travels (step_at edition) (stations layout itinerary) earliest latest path
-
--- F-1, of a verdict: for each such call a stop is given exactly where the path does not travel; and the stop given is what the journey of
--- demand 3 meets, by one of `stop_numbers`. The definition meets it, `where-it-stops` in proofs/WhereItStops.antt, and so does the code.
-unfoldable pub SaysWhereItStops : Edition → Layout → List ℕ → ℕ → ℕ → List ℕ → Verdict → Type 0
-SaysWhereItStops edition layout itinerary earliest latest path verdict =
-    let route = stations layout itinerary in
-    all_yes (questions edition layout itinerary earliest latest path) ≡ true
-    → (((given : Stop) × (verdict ≡ NotPassed given)) ↔ (Travels (step_at edition) route earliest latest path → ⊥))
-    × ((given : Stop) → verdict ≡ NotPassed given
-    → Meets edition route earliest latest path given.reading given.station given.number
-    × (one_of given.number (stop_numbers edition) ≡ true))

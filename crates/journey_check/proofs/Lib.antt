@@ -1,4 +1,2 @@
 pub mod Stations
-pub mod Complete
-pub mod Runs
 pub mod Verdicts

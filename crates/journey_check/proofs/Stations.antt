@@ -20,8 +20,7 @@ use Rattle.records.specs.Records.{station_records, table_records}
 use Rattle.itinerary.specs.Itinerary.{stations, plan_fits, itinerary_fits}
 use Rattle.itinerary.proofs.Stations.{count_by_records, next_record, record_there, station_from_record}
 use Rattle.hop_check.specs.Hop.{arrives_by, leaves_by}
-use Rattle.segment_chain.specs.Chain.{start_of, count_of, hop_of}
-use Rattle.segment_check.specs.Segment.{each_below, segment_fits, segment_fits_from}
+use Rattle.segment_check.specs.Segment.{each_below, segment_fits, start_of, count_of, hop_of, segment_fits_from}
 use Rattle.segment_check.proofs.All.{all_same, at_most_three}
 use Rattle.joint_check.specs.Joint.{change_fits}
 use Rattle.joint_check.specs.Inner.{joint_fits_from}

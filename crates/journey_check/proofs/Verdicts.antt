@@ -1,4 +1,4 @@
--- What the check answers: from what is found of the header, questions 2, 3 and 4, and then the rest; and that it meets demand 3 and F-1.
+-- What the check answers: from what is found of the header, questions 2, 3 and 4, and then the rest; and that it meets demand 3.
 -- Assumes nothing.
 use mathlib.Core.Path.{◌≡◌, sym, ◌∙◌}
 use mathlib.Core.Bool.{cond}
@@ -19,10 +19,8 @@ use Rattle.journey_questions.specs.declared.answer.Verdict.{Verdict}
 use Rattle.journey_questions.specs.declared.answer.Verdict.TheVariants.{Passed, NotPassed, Refused}
 use Rattle.journey.specs.Check.{passes}
 use Rattle.journey_questions.specs.Questions.{questions}
-use Rattle.journey.specs.Stop.{stop}
-use Rattle.journey.specs.Verdict.{journey_check, Demand3, SaysWhereItStops}
+use Rattle.journey.specs.Verdict.{journey_check, Demand3}
 use Rattle.journey.proofs.Demand3.{demand_3}
-use Rattle.journey.proofs.WhereItStops.{where_it_stops}
 
 abbrev pub or_refused : HeaderCheck → Verdict → Verdict
 or_refused Complete rest = rest
@@ -33,8 +31,7 @@ module _ (edition : Edition) (layout : Layout) (itinerary : List ℕ) (earliest 
   abbrev pub later : Verdict
   later =
       asks Refused (drop 3 (questions edition layout itinerary earliest latest path))
-      (cond (passes edition (stations layout itinerary) earliest latest path) Passed
-      (NotPassed (stop edition (stations layout itinerary) earliest latest path)))
+      (cond (passes edition (stations layout itinerary) earliest latest path) Passed NotPassed)
 
   pub check_asked : journey_check edition layout itinerary earliest latest path ≡ or_refused (header_check path) later
   unfolding journey_check
@@ -43,9 +40,6 @@ module _ (edition : Edition) (layout : Layout) (itinerary : List ℕ) (earliest 
       ∙ asks_within HeaderFailed Refused (header_questions path) later
       ∙ sym (header_asked (λ check. or_refused check later) path)
 
-  -- what is promised of the answer
-  pub promised : {verdict : Verdict} → verdict ≡ journey_check edition layout itinerary earliest latest path
-      → (verdict ≡ journey_check edition layout itinerary earliest latest path)
-      × (Demand3 edition layout itinerary earliest latest path verdict × SaysWhereItStops edition layout itinerary earliest latest path verdict)
-  promised e =
-      (e, (rw e (demand_3 edition layout itinerary earliest latest path), rw e (where_it_stops edition layout itinerary earliest latest path)))
+  pub meets_demand_3 : {verdict : Verdict} → verdict ≡ journey_check edition layout itinerary earliest latest path
+      → (verdict ≡ journey_check edition layout itinerary earliest latest path) × Demand3 edition layout itinerary earliest latest path verdict
+  meets_demand_3 e = (e, rw e (demand_3 edition layout itinerary earliest latest path))

@@ -1,3 +1,2 @@
 // The journey check: would a path arrive over the stations of an itinerary, whatever their clocks read from earliest to latest?
-mod stop;
 pub mod verdict;

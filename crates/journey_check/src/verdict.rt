@@ -1,17 +1,13 @@
 // The journey check: 01's questions 2 to 4 and 23 to 25, then the conditions of a pass.
 ghost use Rattle.std.specs.Prelude.{◌≡◌, cond, length, drop};
 ghost use Rattle.questions.specs.Questions.{asks};
-ghost use Rattle.standard_path.specs.Header.{header_check};
-ghost use Rattle.standard_path.specs.declared.view.HeaderCheck.TheVariants.{Complete};
 ghost use Rattle.records.specs.Layout.{narrow, layout_of};
 ghost use Rattle.itinerary.specs.Itinerary.{stations};
 ghost use Rattle.journey.specs.Check.{passes};
 ghost use Rattle.journey_questions.specs.Questions.{station_count, questions};
-ghost use Rattle.journey.specs.Stop.{stop};
-ghost use Rattle.journey.specs.Verdict.{journey_check, Demand3, SaysWhereItStops};
+ghost use Rattle.journey.specs.Verdict.{journey_check, Demand3};
 ghost use Rattle.journey_questions.specs.declared.answer.Verdict.TheVariants.{Passed, NotPassed, Refused};
 
-use crate::stop::stop;
 use edition::Edition;
 use joint_check::joints_fit;
 use journey_questions::answer::{JourneyError, Verdict};
@@ -57,11 +53,9 @@ fn check_complete(
     earliest: u32,
     latest: u32,
 ) -> Verdict
-    requires { header_check path.now ≡ Complete }
     ensures { result ≡ asks Refused
         (drop 3 (questions edition (layout_of form) itinerary.now earliest latest path.now))
-        (cond (passes edition (stations (layout_of form) itinerary.now) earliest latest path.now) Passed
-        (NotPassed (stop edition (stations (layout_of form) itinerary.now) earliest latest path.now))) }
+        (cond (passes edition (stations (layout_of form) itinerary.now) earliest latest path.now) Passed NotPassed) }
 {
     if !itinerary_fits(form, edition, itinerary, earliest, latest, path) {
         return Verdict::Refused(JourneyError::UnfitItinerary);
@@ -73,9 +67,10 @@ fn check_complete(
         return Verdict::Refused(JourneyError::AlertSet);
     }
     if passes(form, edition, itinerary, earliest, latest, path) {
-        return Verdict::Passed;
+        Verdict::Passed
+    } else {
+        Verdict::NotPassed
     }
-    Verdict::NotPassed(stop(form, edition, itinerary, earliest, latest, path))
 }
 
 pub fn check_journey(
@@ -87,7 +82,6 @@ pub fn check_journey(
 ) -> Verdict
     ensures value { result ≡ journey_check edition narrow itinerary.now earliest latest path.now }
     ensures demand3 { Demand3 edition narrow itinerary.now earliest latest path.now result }
-    ensures says_where_it_stops { SaysWhereItStops edition narrow itinerary.now earliest latest path.now result }
 {
     match view::check_header(path) {
         HeaderCheck::Failed(error) => Verdict::Refused(JourneyError::HeaderFailed(error)),

@@ -4,7 +4,7 @@ use Rattle.std.specs.Prelude.{ℕ, ◌-◌, List, [], ◌∷◌, get_or}
 use Rattle.edition.specs.declared.Edition.{Edition}
 use Rattle.records.specs.Layout.{Layout}
 use Rattle.records.specs.Records.{station_records}
-use Rattle.segment_chain.specs.Chain.{start_of}
+use Rattle.segment_check.specs.Segment.{start_of}
 use Rattle.journey_questions.specs.Lengths.{shared}
 
 abbrev pub first_record : Edition → Layout → List ℕ → List ℕ → ℕ → ℕ

@@ -15,25 +15,10 @@ pub enum JourneyError {
     AlertSet,
 }
 
-// What every clock reads.
-#[derive(Drop)]
-pub enum Reading {
-    Earliest,
-    Latest,
-}
-
-// Where a journey stops: the station, counted from 0, the number of its answer, and what the clocks read.
-#[derive(Drop)]
-pub struct Stop {
-    pub station: usize,
-    pub number: u8,
-    pub reading: Reading,
-}
-
 #[derive(Drop)]
 pub enum Verdict {
     Passed,
-    NotPassed(Stop),
+    NotPassed,
     Refused(JourneyError),
 }
 

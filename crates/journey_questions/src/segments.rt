@@ -7,7 +7,7 @@ ghost use Rattle.journey_questions.specs.Inner.{first_record, first_records};
 
 use edition::Edition;
 use records::form::Form;
-use segment_chain::hops::segment_start;
+use segment_check::hops::segment_start;
 use standard_path::view;
 use station::station_record;
 

@@ -11,10 +11,8 @@ use Rattle.standard_path.specs.Header.{hop_field}
 use Rattle.edition.specs.declared.Edition.{Edition}
 use Rattle.place.specs.Place.{info, crosses}
 use Rattle.writes.specs.Writes.{flags_at, alert_cleared_at}
-use Rattle.beta_steps.specs.BetaSteps.{stepped, takes_step}
-use Rattle.beta_steps.specs.Inner.{stepped_at}
-use Rattle.moves.specs.Moves.{ingress_fields, ingress_move, egress_ahead, egress_move}
-use Rattle.moves.specs.Inner.{fields_at, ingress_move_at, indices_at, egress_move_at}
+use Rattle.moves.specs.Moves.{stepped, takes_step, ingress_fields, ingress_move, egress_ahead, egress_move}
+use Rattle.moves.specs.Inner.{stepped_at, fields_at, ingress_move_at, indices_at, egress_move_at}
 use Rattle.moves.proofs.Touched.{touched, cleared_there}
 
 module _ (edition : Edition) (path : List ℕ) {at : ℕ} {c : Bool} (here : at ≡ flags_at path (curr_hf path)) (dir : c ≡ cons_dir (info path)) where

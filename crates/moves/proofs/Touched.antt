@@ -17,8 +17,7 @@ use Rattle.writes.proofs.SegIdSet.{seg_id_kept, seg_id_curr_inf, seg_id_curr_hf,
 use Rattle.writes.proofs.AlertCleared.{alert_kept, alert_curr_inf, alert_curr_hf, alert_info, alert_hop_other, alert_exp_time, alert_cons_ingress, alert_cons_egress, alert_mac}
 use Rattle.edition.specs.declared.Edition.{Edition}
 use Rattle.place.specs.Place.{is_peering_hop, hop, info}
-use Rattle.beta_steps.specs.BetaSteps.{stepped_seg_id, stepped, ingress_seg_id}
-use Rattle.moves.specs.Moves.{ingress_fields}
+use Rattle.moves.specs.Moves.{stepped, stepped_seg_id, ingress_seg_id, ingress_fields}
 
 -- two hop fields that differ in their flags at most
 pub record SameHop (first second : List ℕ) : Type 0 where

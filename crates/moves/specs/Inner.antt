@@ -1,13 +1,18 @@
 -- For the contracts of inner functions: the moves, with the place where the current hop field starts and the direction of its segment lent.
 -- At that place and in that direction they are the moves: proofs/Lent.antt.
 -- Assumes nothing.
-use Rattle.std.specs.Prelude.{ℕ, ◌+◌, Bool, true, false, not, cond, List, eqb}
+use Rattle.std.specs.Prelude.{ℕ, ◌+◌, Bool, true, false, not, cond, List, eqb, take, drop}
+use Rattle.hop_mac.specs.Mac.{mac_beta_step}
+use Rattle.fields.specs.Fields.{seg_id, mac_field}
 use Rattle.standard_path.specs.Meta.{curr_inf, curr_hf, set_curr_inf, set_curr_hf}
 use Rattle.edition.specs.declared.Edition.{Edition}
-use Rattle.place.specs.Place.{crosses}
-use Rattle.writes.specs.Writes.{alert_cleared_at}
-use Rattle.beta_steps.specs.BetaSteps.{takes_step}
-use Rattle.beta_steps.specs.Inner.{stepped_at}
+use Rattle.place.specs.Place.{info, crosses}
+use Rattle.writes.specs.Writes.{set_seg_id, alert_cleared_at}
+use Rattle.moves.specs.Moves.{takes_step}
+
+unfoldable pub stepped_at : List ℕ → ℕ → Bool → List ℕ
+stepped_at path at taken =
+    cond taken (set_seg_id path (curr_inf path) (mac_beta_step (seg_id (info path)) (mac_field (take 12 (drop at path))))) path
 
 unfoldable pub fields_at : Edition → List ℕ → ℕ → ℕ → Bool → List ℕ
 fields_at edition path interface at c =

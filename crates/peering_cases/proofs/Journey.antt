@@ -9,7 +9,7 @@ use Rattle.fields.specs.Fields.{cons_dir, peering, seg_id, mac_field}
 use Rattle.standard_path.specs.Header.{infos, hops, info_field, hop_field}
 use Rattle.edition.specs.declared.Edition.TheVariants.{First, Second}
 use Rattle.edition.specs.Edition.{peering_form, peering_placed, peering_fits}
-use Rattle.segment_chain.specs.Chain.{macs_from, chained_seg_id, peering_hop_of, hop_of}
+use Rattle.segment_check.specs.Segment.{macs_from, chained_seg_id, peering_hop_of, hop_of}
 use Rattle.journey_questions.specs.Lengths.{lengths_fit, lengths_pass}
 use Rattle.journey_questions.specs.Questions.{station_count}
 

@@ -23,8 +23,7 @@ use Rattle.edition.specs.declared.Edition.{Edition}
 use Rattle.edition.specs.declared.Edition.TheVariants.{First, Second}
 use Rattle.answers.specs.Outcome.{Outcome}
 use Rattle.edition.specs.Edition.{peering_form, peering_placed}
-use Rattle.beta_steps.specs.BetaSteps.{stepped}
-use Rattle.moves.specs.Moves.{ingress_move, egress_move}
+use Rattle.moves.specs.Moves.{stepped, ingress_move, egress_move}
 use Rattle.ingress.specs.Ingress.{ingress_action, ingress}
 use Rattle.egress.specs.Egress.{leaving_action, egress}
 use Rattle.routing.specs.Step.{step_from, step}

@@ -22,9 +22,6 @@ use Rattle.answers.specs.declared.StepAnswer.TheVariants.{Action, Refused}
 use Rattle.scmp.specs.declared.ScmpError.{ScmpError}
 use Rattle.scmp.specs.declared.ScmpError.TheVariants.{NoMessage}
 use Rattle.journey_questions.specs.Questions.{journey_number}
-use Rattle.journey_questions.specs.declared.answer.Reading.{Reading}
-use Rattle.journey_questions.specs.declared.answer.Reading.TheVariants.{Earliest, Latest}
-use Rattle.journey_questions.specs.declared.answer.Stop.{Stop}
 use Rattle.journey_questions.specs.declared.answer.Verdict.{Verdict}
 use Rattle.journey_questions.specs.declared.answer.Verdict.TheVariants as verdict
 use Rattle.reply.specs.declared.Reply.{Reply}
@@ -78,15 +75,7 @@ unfoldable pub segment_reply : List ℕ → ℕ → Reply
 segment_reply path hop =
     asks (λ error. reply (header_number error) [] NoMessage) (header_questions path) (index_reply hop (segment_index path hop))
 
--- what the clocks read: 0 the earliest, 1 the latest
-abbrev pub reading_number : Reading → ℕ
-reading_number Earliest = 0
-reading_number Latest = 1
-
-abbrev pub stop_reply : Stop → Reply
-stop_reply stop = reply 121 (stop.station ∷ stop.number ∷ reading_number stop.reading ∷ []) NoMessage
-
 unfoldable pub journey_reply : Verdict → Reply
 journey_reply verdict.Passed = reply 120 [] NoMessage
-journey_reply (verdict.NotPassed stop) = stop_reply stop
+journey_reply verdict.NotPassed = reply 121 [] NoMessage
 journey_reply (verdict.Refused error) = reply (journey_number error) [] NoMessage

@@ -2,12 +2,12 @@
 ghost use Rattle.std.specs.Prelude.{◌≡◌, [], ◌∷◌};
 ghost use Rattle.scmp.specs.declared.ScmpError.TheVariants.{NoMessage};
 ghost use Rattle.reply.specs.Reply.{reply, refusal_reply, action_reply, step_reply, ingress_reply};
-ghost use Rattle.reply.specs.Reply.{reversal_reply, expiration_reply, index_reply, segment_reply, reading_number, stop_reply, journey_reply};
+ghost use Rattle.reply.specs.Reply.{reversal_reply, expiration_reply, index_reply, segment_reply, journey_reply};
 
 use answers::{AsRoutingAction, IngressNextAction, StandardRoutingError, StepAnswer, number};
 use expiration::PathExpiration;
 use journey_questions::answer;
-use journey_questions::answer::{Reading, Stop, Verdict};
+use journey_questions::answer::Verdict;
 use reverse::Reversal;
 use scmp::ScmpError;
 use standard_path::view;
@@ -152,37 +152,12 @@ pub fn segment_reply(path: &[u8], hop_idx: u8) -> Reply
     }
 }
 
-fn reading_number(reading: Reading) -> u64
-    ensures { result ≡ reading_number reading }
-{
-    match reading {
-        Reading::Earliest => 0,
-        Reading::Latest => 1,
-    }
-}
-
-fn stop_reply(stop: Stop) -> Reply
-    ensures { result ≡ stop_reply stop }
-{
-    let reading = stop.reading;
-    plain(
-        121,
-        3,
-        [
-            stop.station as u64,
-            stop.number as u64,
-            reading_number(reading),
-            0,
-        ],
-    )
-}
-
 pub fn journey_reply(verdict: Verdict) -> Reply
     ensures { result ≡ journey_reply verdict }
 {
     match verdict {
         Verdict::Passed => number_reply(120),
-        Verdict::NotPassed(stop) => stop_reply(stop),
+        Verdict::NotPassed => number_reply(121),
         Verdict::Refused(error) => number_reply(answer::journey_number(error) as u16),
     }
 }

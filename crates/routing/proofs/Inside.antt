@@ -13,7 +13,7 @@ use Rattle.questions.specs.Questions.{asks}
 use Rattle.standard_path.specs.Meta.{curr_inf, curr_hf, seg0_len, seg1_len, set_curr_hf, set_curr_inf}
 use Rattle.fields.specs.Fields.{cons_dir, seg_id, travel_egress}
 use Rattle.standard_path.specs.Header.{infos, hops, header_size, info_field, hop_field}
-use Rattle.standard_path.proofs.Kept.{lengths_kept, infos_kept, hops_kept}
+use Rattle.standard_path.proofs.Kept.{infos_kept, hops_kept}
 use Rattle.standard_path.proofs.IndexSet.{set_hf_hop, set_hf_info, set_inf_hop, set_inf_info, hf_after_hf, hf_after_inf, inf_after_inf, set_hf_kept}
 use Rattle.answers.specs.Questions.{Questions, first_no}
 use Rattle.validator.specs.Check.{MacFunction, hop_questions, change_questions, at_ingress, at_egress}
@@ -31,14 +31,12 @@ use Rattle.answers.proofs.Asked.{first_yes, rest_yes, both_yes, none_asked, goes
 use Rattle.edition.specs.declared.Edition.{Edition}
 use Rattle.answers.specs.Outcome.{leaves}
 use Rattle.interface_table.specs.Table.{state_of}
-use Rattle.leaving.specs.Leaving.{leaving_questions}
-use Rattle.routing.specs.Step.{step_from, step}
+use Rattle.routing.specs.Step.{leaving_questions, step_from, step}
 use Rattle.ingress.proofs.Told.{ingress_all_told}
 use Rattle.egress.proofs.Told.{egress_all_told}
 use Rattle.edition.specs.Edition.{peering_path, peering_questions}
 use Rattle.place.specs.Place.{before, segment, ends, is_final, is_peering_hop, crosses, changes, ingress_place, way_questions, egress_place, hop, info, next_hop, next_info}
-use Rattle.beta_steps.specs.BetaSteps.{ingress_seg_id}
-use Rattle.moves.specs.Moves.{ingress_fields, ingress_move, egress_move}
+use Rattle.moves.specs.Moves.{ingress_seg_id, ingress_fields, ingress_move, egress_move}
 use Rattle.checks.specs.Checks.{ingress_questions, egress_questions}
 use Rattle.ingress.specs.Ingress.{alerts_at_ingress, leaving, ingress_action, ingress}
 use Rattle.egress.specs.Egress.{egress_action, egress}
@@ -137,7 +135,7 @@ stands edition ids states path a p =
     }
 
 -- a segment change has a next hop
-pub next_hop_lem : (edition : Edition) (path : List ℕ) → changes edition path ≡ true → curr_hf path + 1 < hops path
+next_hop_lem : (edition : Edition) (path : List ℕ) → changes edition path ≡ true → curr_hf path + 1 < hops path
 next_hop_lem edition path e = go (is_peering_hop edition path) (ends path) (leb (hops path) (curr_hf path + 1)) refl e
   where
     go : (peer end final : Bool) → leb (hops path) (curr_hf path + 1) ≡ final → (not peer && (end && not final)) ≡ true
@@ -204,10 +202,10 @@ infos_few path = omega arith
 
 -- ---- the path after an ingress that went on: its indices are in the header, and its hop passes
 
-pub record Ready (mac : MacFunction) (out time : ℕ) (unchecked : Bool) (path after : List ℕ) : Type 0 where
-  pub among : curr_hf after < hops path
-  pub inside : curr_inf after < infos path
-  pub passes : first_no (egress_questions mac (at_egress out time unchecked) after) ≡ Valid
+record Ready (mac : MacFunction) (out time : ℕ) (unchecked : Bool) (path after : List ℕ) : Type 0 where
+  among : curr_hf after < hops path
+  inside : curr_inf after < infos path
+  passes : first_no (egress_questions mac (at_egress out time unchecked) after) ≡ Valid
 
 module _ (edition : Edition) (ids states : List ℕ) (mac : MacFunction) (interface time : ℕ) (unchecked : Bool) (path : List ℕ)
     (s : Standing edition path)
@@ -283,7 +281,7 @@ module _ (edition : Edition) (ids states : List ℕ) (mac : MacFunction) (interf
   abbrev after : List ℕ
   after = ingress_move edition path interface (changes edition path)
 
-  pub ready : Ready mac out time unchecked path after
+  ready : Ready mac out time unchecked path after
   unfolding header_size
   ready =
       let s = stands edition ids states path w.asked w.placed in
@@ -299,7 +297,7 @@ module _ (edition : Edition) (ids states : List ℕ) (mac : MacFunction) (interf
       go s fields true e = change_ready edition ids states mac interface time unchecked path s fields e
       go s fields false e = stay_ready edition ids states mac interface time unchecked path s fields
 
-  pub held : Holds path after
+  held : Holds path after
   held =
       let s = stands edition ids states path w.asked w.placed in
       ingress_move_holds edition path s.inside s.among interface (changes edition path)
@@ -329,7 +327,7 @@ module _ (edition : Edition) (ids states : List ℕ) (mac : MacFunction) (interf
         h.kept.seg1,
         h.kept.seg2,
         hops_kept h.kept,
-        peering_path_kept (lengths_kept h.kept) h.flags edition,
+        peering_path_kept h.kept h.flags edition,
         fields.hf,
         fields.inf,
         eq-eqb _ _ s.here,
@@ -353,7 +351,7 @@ module _ (edition : Edition) (ids states : List ℕ) (mac : MacFunction) (interf
       let here : curr_hf after < hops after = rw (hops_kept held.kept) ready.among in
       let inside : curr_inf after < infos after = rw (infos_kept held.kept) ready.inside in
       let fits : first_no (peering_questions edition after) ≡ Valid =
-      ap first_no (questions_kept (lengths_kept held.kept) held.flags edition) ∙ (stands edition ids states path w.asked w.placed).fits in
+      ap first_no (questions_kept held.kept held.flags edition) ∙ (stands edition ids states path w.asked w.placed).fits in
       rw (egress_placed, place_inside edition after here inside fits)
 
 -- egress, on the bytes that an ingress left which went on: where the path stands is all that it asks, and of that what is left

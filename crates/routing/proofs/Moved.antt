@@ -32,12 +32,10 @@ use Rattle.answers.specs.Outcome.{Outcome, leaves}
 use Rattle.ingress.proofs.Told.{ingress_told}
 use Rattle.egress.proofs.Told.{egress_told}
 use Rattle.place.specs.Place.{before, ingress_place, egress_place, changes, crosses, info}
-use Rattle.beta_steps.specs.BetaSteps.{stepped, steps_at_ingress}
-use Rattle.moves.specs.Moves.{ingress_fields, ingress_move, egress_ahead, egress_move}
+use Rattle.moves.specs.Moves.{stepped, steps_at_ingress, ingress_fields, ingress_move, egress_ahead, egress_move}
 use Rattle.ingress.specs.Ingress.{ingress}
 use Rattle.egress.specs.Egress.{egress}
-use Rattle.leaving.specs.Leaving.{leaving_questions}
-use Rattle.routing.specs.Step.{leave, step_from, step}
+use Rattle.routing.specs.Step.{leaving_questions, leave, step_from, step}
 use Rattle.interface_table.specs.Table.{state_of}
 use Rattle.answers.specs.declared.StepAnswer.TheVariants.{Refused as Stopped}
 use Rattle.moves.proofs.Touched.{stepped_info}

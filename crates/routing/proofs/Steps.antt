@@ -25,8 +25,7 @@ use Rattle.place.specs.Place.{egress_place}
 use Rattle.moves.specs.Moves.{egress_move}
 use Rattle.ingress.specs.Ingress.{ingress}
 use Rattle.egress.specs.Egress.{egress_action}
-use Rattle.leaving.specs.Leaving.{leaving_questions}
-use Rattle.routing.specs.Step.{step_from, step}
+use Rattle.routing.specs.Step.{leaving_questions, step_from, step}
 use Rattle.routing.specs.Inner.{finished}
 use Rattle.routing.proofs.Inside.{step_goes_on}
 

@@ -1,19 +1,31 @@
 -- 01, 'spec/standard.rs': the whole step. Ingress; if it goes on, whether the leaving interface is listed and up; egress.
 -- Assumes nothing.
-use Rattle.std.specs.Prelude.{ℕ, Bool, List}
+use Rattle.std.specs.Prelude.{ℕ, Bool, List, [], ◌∷◌}
+use Rattle.standard_path.specs.Meta.{curr_hf}
+use Rattle.fields.specs.Fields.{cons_dir}
 use Rattle.interface_table.specs.Table.{state_of}
+use Rattle.interface_table.specs.declared.Listed.{Listed}
 use Rattle.questions.specs.Questions.{asks}
-use Rattle.validator.specs.Check.{MacFunction, at_ingress, at_egress}
+use Rattle.answers.specs.Questions.{Questions}
+use Rattle.validator.specs.Check.{MacFunction, is_listed, is_up_listed, at_ingress, at_egress}
 use Rattle.validator.specs.declared.StandardValidator.{StandardValidator}
+use Rattle.answers.specs.declared.StandardRoutingError.TheVariants.{UnknownEgressInterface, EgressInterfaceDown}
 use Rattle.answers.specs.declared.IngressNextAction.{IngressNextAction}
 use Rattle.answers.specs.declared.IngressNextAction.TheVariants.{ContinueEgress, Complete, Refused as Stopped}
 use Rattle.answers.specs.declared.StepAnswer.{StepAnswer}
 use Rattle.answers.specs.declared.StepAnswer.TheVariants.{Action, Refused}
 use Rattle.edition.specs.declared.Edition.{Edition}
 use Rattle.answers.specs.Outcome.{Outcome, leaves}
-use Rattle.leaving.specs.Leaving.{leaving_questions}
+use Rattle.place.specs.Place.{info}
 use Rattle.ingress.specs.Ingress.{ingress}
 use Rattle.egress.specs.Egress.{egress}
+
+-- 15 and 17, with what the table has for the leaving interface
+abbrev pub leaving_questions : Listed → ℕ → List ℕ → Questions
+leaving_questions listed out path =
+    (is_listed listed, UnknownEgressInterface (curr_hf path) out (cons_dir (info path)))
+    ∷ (is_up_listed listed, EgressInterfaceDown (curr_hf path) out)
+    ∷ []
 
 -- 15 and 17, then egress
 abbrev pub leave : Edition → List ℕ → List ℕ → MacFunction → StandardValidator → List ℕ → Outcome StepAnswer

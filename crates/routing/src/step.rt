@@ -5,17 +5,22 @@
 // call; egress inside the whole step asks only where the path stands.
 // Copyright 2025 Anapaya Systems
 // Licensed under the Apache License, Version 2.0: see NOTICE.
-ghost use Rattle.std.specs.Prelude.{◌≡◌};
+ghost use Rattle.std.specs.Prelude.{◌≡◌, cond, eqb};
+ghost use Rattle.standard_path.specs.Meta.{curr_hf};
+ghost use Rattle.answers.specs.Questions.{first_no};
+ghost use Rattle.answers.specs.declared.Validation.TheVariants.{Valid};
+ghost use Rattle.interface_table.specs.Table.{state_of};
+ghost use Rattle.place.specs.Place.{egress_place};
 ghost use Rattle.ingress.specs.Ingress.{ingress};
 ghost use Rattle.egress.specs.Egress.{egress};
 ghost use Rattle.validator.specs.Check.{key_mac, at_ingress, at_egress};
-ghost use Rattle.routing.specs.Step.{step};
+ghost use Rattle.routing.specs.Step.{leaving_questions, step};
 ghost use Rattle.routing.specs.Inner.{finished};
 
-use answers::{AsRoutingAction, IngressNextAction, StepAnswer, Validation};
+use answers::{AsRoutingAction, IngressNextAction, StandardRoutingError, StepAnswer, Validation};
 use edition::Edition;
 use hop_mac::ForwardingKey;
-use leaving::{validate_leaving, validate_place};
+use interface_table::Listed;
 use standard_path::view;
 use validator::StandardValidator;
 
@@ -69,7 +74,41 @@ pub fn standard_path_egress(
     egress::advance_egress_with_validator(edition, ids, states, forwarding_key, at, path)
 }
 
-// ---- the whole step
+// ---- between them
+
+// Questions 15 and 17 of the interface that the packet leaves by.
+fn validate_leaving(ids: &[u16], states: &[u8], out: u16, path: &[u8]) -> Validation
+    ensures { result ≡ first_no (leaving_questions (state_of ids.now states.now out) out path.now) }
+{
+    let hop_index = view::curr_hop_field_idx(path);
+    let Listed::State(state) = interface_table::lookup(ids, states, out) else {
+        let cons_dir = fields::cons_dir(view::curr_info_field(path));
+        return Validation::Invalid(StandardRoutingError::UnknownEgressInterface {
+            hop_index,
+            if_id: out,
+            cons_dir,
+        });
+    };
+    if interface_table::is_up(state) {
+        return Validation::Valid;
+    }
+    Validation::Invalid(StandardRoutingError::EgressInterfaceDown {
+        hop_index,
+        if_id: out,
+    })
+}
+
+// Where the path stands at egress. Without a segment change ingress has had a yes to all that would be asked.
+fn validate_place(edition: Edition, path: &[u8], hop_index: u8) -> Validation
+    ensures { result ≡ cond (eqb (curr_hf path.now) hop_index) Valid (first_no (egress_place edition path.now)) }
+{
+    if view::curr_hop_field_idx(path) == hop_index {
+        return Validation::Valid;
+    }
+    let fits = edition::peering_fits(edition, path);
+    let crossing = place::crosses(edition, path);
+    place::locate_egress(path, fits, crossing)
+}
 
 // The answer of an ingress that does not go on.
 fn finish(next_action: IngressNextAction) -> StepAnswer
@@ -87,6 +126,8 @@ fn finish(next_action: IngressNextAction) -> StepAnswer
         }
     }
 }
+
+// ---- the whole step
 
 pub fn handle_standard_path(
     edition: Edition,

@@ -2,5 +2,3 @@ pub mod Whole
 pub mod Numbers
 pub mod Unchecked
 pub mod Editions
-pub mod Followed
-pub mod HeaderAlone

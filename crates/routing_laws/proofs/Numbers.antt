@@ -12,7 +12,7 @@ use Rattle.edition.specs.declared.Edition.{Edition}
 use Rattle.edition.specs.declared.Edition.TheVariants.{First, Second}
 use Rattle.place.specs.Place.{before, ingress_place, egress_place}
 use Rattle.checks.specs.Checks.{ingress_questions, egress_questions}
-use Rattle.leaving.specs.Leaving.{leaving_questions}
+use Rattle.routing.specs.Step.{leaving_questions}
 
 -- the number for a no to each question
 abbrev pub numbers : Questions → List ℕ

@@ -24,8 +24,7 @@ use Rattle.checks.specs.Checks.{ingress_questions}
 use Rattle.ingress.specs.Ingress.{alerts_at_ingress, leaving, ingress_action, ingress}
 use Rattle.moves.specs.Moves.{ingress_move, egress_move}
 use Rattle.egress.specs.Egress.{egress_action, egress}
-use Rattle.leaving.specs.Leaving.{leaving_questions}
-use Rattle.routing.specs.Step.{step_from, step}
+use Rattle.routing.specs.Step.{leaving_questions, step_from, step}
 use Rattle.routing.proofs.Inside.{inside_questions, egress_after}
 
 module _ (edition : Edition) (ids states : List ℕ) (mac : MacFunction) (interface time : ℕ) (unchecked : Bool) (path : List ℕ) where

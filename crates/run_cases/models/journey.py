@@ -1,13 +1,11 @@
-"""A model of the journey check, written from the scope's text and from 02, with two ways to a verdict.
+"""A model of the journey check, written from the scope's text, with two ways to a verdict.
 
 `passes` is the list of conditions of a pass. `travels` drives the journey with the step of step.py.
-`stop` is where a path that doesn't pass stops, and has no part in the verdict.
-All take the edition, the first if none is given.
+Both take the edition, the first if none is given.
 """
 import random
 from collections import namedtuple
 
-import script
 import step as step_model
 from step import ALLOWED, Header, No, ask
 
@@ -272,86 +270,25 @@ def passes(stations, path, earliest, latest, edition):
 # ---- The journey, written out
 
 
-def answer_at(station, path, reading, edition):
-    """What the station's whole step answers. It moves the path."""
-    step_model.KEY = station.key
-    ids, states = [number for number, _ in station.table], [state for _, state in station.table]
-    try:
-        return step_model.go_through(path, ids, states, station.arrival, reading, False, edition)
-    except No as no:
-        return f"refused {no.args[0]}"
-
-
-def journey_end(stations, path, readings, edition):
-    """The station at which the journey ends, counted from 0, and what this station answers."""
+def arrives(stations, path, readings, edition):
     path = bytearray(path)
     for at, (station, reading) in enumerate(zip(stations, readings)):
-        answer = answer_at(station, path, reading, edition)
-        if at + 1 == len(stations) or not answer.startswith("ForwardNextHop "):
-            return at, answer
-
-
-def is_arrival(stations, at, answer):
-    return at + 1 == len(stations) and answer == "ForwardLocal"
-
-
-def arrives(stations, path, readings, edition):
-    return is_arrival(stations, *journey_end(stations, path, readings, edition))
+        step_model.KEY = station.key
+        ids, states = [number for number, _ in station.table], [state for _, state in station.table]
+        try:
+            answer = step_model.go_through(path, ids, states, station.arrival, reading, False, edition)
+        except No:
+            return False
+        last = at + 1 == len(stations)
+        if not (answer == "ForwardLocal" if last else answer.startswith("ForwardNextHop ")):
+            return False
+    return True
 
 
 def travels(stations, path, earliest, latest, edition):
     lists = [[earliest] * len(stations), [latest] * len(stations)]
     lists += [[random.randint(earliest, latest) for _ in stations] for _ in range(8)]
     return all(arrives(stations, path, readings, edition) for readings in lists)
-
-
-# ---- F-1: where the journey stops
-
-
-def stop_at(stations, path, reading, edition):
-    """Station and number with every clock at this reading; nothing if that run arrives."""
-    at, answer = journey_end(stations, path, [reading] * len(stations), edition)
-    return () if is_arrival(stations, at, answer) else (at, number_of(answer))
-
-
-def number_of(answer):
-    return int(script.numbered(answer).split()[0])
-
-
-def stop(stations, path, earliest, latest, edition):
-    """Station, number and which reading: 0 for the earliest and, where that run arrives, 1 for the latest."""
-    for which, reading in enumerate([earliest, latest]):
-        pair = stop_at(stations, path, reading, edition)
-        if pair:
-            return *pair, which
-    return ()
-
-
-# the numbers that a stop can have; in the second edition 28 too
-NUMBERS = {5, 6, 7, 9, 10, 11, 12, 14, 15, 16, 17, 18}
-
-
-def check_stop(path, itinerary, earliest, latest, edition=1):
-    """Asserts what 02 says of a stop, and which numbers it can have. No answer comes from here."""
-    try:
-        stations = ask_journey(path, itinerary, earliest, latest, edition)
-    except No:
-        return
-    header, found = Header(path), stop(stations, path, earliest, latest, edition)
-    # a path that doesn't pass has a stop, and if both runs arrive the path passes
-    assert (found == ()) == passes(stations, path, earliest, latest, edition), found
-    # bytes behind the header don't matter
-    assert found == stop(stations, path + b"\xff" * 12, earliest, latest, edition), found
-    if not any(map(header.peering, range(header.infos))):
-        # without P the editions don't differ
-        assert found == stop(stations, path, earliest, latest, 3 - edition), found
-    if not is_peering_sound(header, edition):
-        assert found in [(0, 6, 0), (0, 7, 0), (0, 28, 0)], found
-    elif found:
-        station, number, which = found
-        assert station < len(stations) and number in NUMBERS, found
-        # where the earliest run arrives, only question 11 can have another answer at a later reading
-        assert which == 0 or number == 11, found
 
 
 # ---- the verdict, by `passes` or by `travels`
@@ -362,6 +299,4 @@ def verdict(does_pass, path, itinerary, earliest, latest, edition=1):
         stations = ask_journey(path, itinerary, earliest, latest, edition)
     except No as no:
         return f"refused {no.args[0]}"
-    if does_pass(stations, path, earliest, latest, edition):
-        return "passed"
-    return " ".join(map(str, ["not passed", *stop(stations, path, earliest, latest, edition)]))
+    return "passed" if does_pass(stations, path, earliest, latest, edition) else "not passed"

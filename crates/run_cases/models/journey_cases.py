@@ -1,7 +1,6 @@
 """The cases of the journey check.
 
 The verdicts are those of journey.py: its two ways to one, and the verdict that the case is there for, must agree.
-Where a path stops is read off the papers and written down with its case; the model must find the same.
 """
 import random
 from collections import namedtuple
@@ -144,7 +143,6 @@ def case(expected, label, path, itinerary, earliest=1000, latest=1337):
     answer = model.verdict(model.passes, path, itinerary, earliest, latest)
     by_journey = model.verdict(model.travels, path, itinerary, earliest, latest)
     assert answer == by_journey == expected, (label, answer, by_journey, expected)
-    model.check_stop(path, itinerary, earliest, latest)
     assert all(label != before for before, *_ in CASES), label
     CASES.append((label, path, itinerary, earliest, latest))
     ANSWERS.append(answer)
@@ -156,14 +154,8 @@ def passed(label, *given):
     case("passed", label, *given)
 
 
-def stops(station, number, label, *given):
-    """Not passed: with every clock at the earliest reading it ends at this station, with this number."""
-    case(f"not passed {station} {number} 0", label, *given)
-
-
-def expires(station, label, *given):
-    """Not passed, but with every clock at the earliest reading it arrives."""
-    case(f"not passed {station} 11 1", label, *given)
+def not_passed(label, *given):
+    case("not passed", label, *given)
 
 
 def refused(number, label, *given):
@@ -175,8 +167,6 @@ def refused(number, label, *given):
 MIXES = [[3], [2, 3], [2, 3, 2]]
 ONE, TWO, THREE = map(hops_of, MIXES)
 PLANS = [itinerary_of(stations_for(lengths)) for lengths in MIXES]
-# of three segments, the station of each hop and of each segment's first hop
-STATIONS_OF_THREE, STARTS_OF_THREE = [0, 1, 1, 2, 3, 3, 4], [0, 1, 3]
 
 
 def directions_of(count):
@@ -200,33 +190,31 @@ def spelled_lengths(lengths):
 def short_lengths():
     """Nothing but the lengths is wrong: a one-hop segment has the links of a change."""
     alone = itinerary_of(stations_for([1]))
-    stops(0, 5, "(0,0,0), one station", bytes(4), alone)
-    stops(0, 6, "(1,0,0), one station", built(hops_of([1]), [1]), alone)
+    not_passed("(0,0,0), one station", bytes(4), alone)
+    not_passed("(1,0,0), one station", built(hops_of([1]), [1]), alone)
     last = Station(11, key(1), [(11, CHILD_UP), (12, CHILD_UP)])
     path = built(with_hop(hops_of([2, 1]), 1, 0, egress=12), [1, 1])
-    stops(1, 5, "(2,1,0)", path, itinerary_of(stations_for([2])[:1] + [last]))
+    not_passed("(2,1,0)", path, itinerary_of(stations_for([2])[:1] + [last]))
     first = Station(0, key(0), [(0, CHILD_UP), (2, CHILD_UP)])
     path = built(hops_of([1, 2]), [1, 1])
-    stops(0, 6, "(1,2,0)", path, itinerary_of([first] + stations_for([2])[1:]))
+    not_passed("(1,2,0)", path, itinerary_of([first] + stations_for([2])[1:]))
     last = Station(21, key(2), [(21, CHILD_UP), (22, CHILD_UP)])
     path = built(with_hop(hops_of([2, 2, 1]), 2, 0, egress=22), [1, 1, 1])
-    stops(2, 5, "(2,2,1)", path, itinerary_of(stations_for([2, 2])[:2] + [last]))
+    not_passed("(2,2,1)", path, itinerary_of(stations_for([2, 2])[:2] + [last]))
 
 
 def empty_segments():
     for used, orders in ([2, 2], ([2, 0, 2], [0, 2, 2])), ([2], ([0, 2, 0], [0, 0, 2])):
         directions, plan = [1] * len(used), itinerary_of(stations_for(used))
         for lengths in orders:
-            # with the first length 0 the first hop's segment isn't the first
-            station = 1 if lengths[0] else 0
-            stops(station, 7, spelled_lengths(lengths), built(hops_of(used), directions, lengths=lengths), plan)
+            not_passed(spelled_lengths(lengths), built(hops_of(used), directions, lengths=lengths), plan)
 
 
 def longest():
     lengths = [22, 21, 21]
     path, plan = built(hops_of(lengths), [0, 1, 0]), itinerary_of(stations_for(lengths))
     passed("64 hops", path, plan)
-    stops(61, 12, "64 hops, last MAC wrong", edited(path, (795, bytes([path[795] ^ 1]))), plan)
+    not_passed("64 hops, last MAC wrong", edited(path, (795, bytes([path[795] ^ 1]))), plan)
 
 
 # ---- timestamps and expiries
@@ -238,34 +226,33 @@ def clock_readings():
         path, name = built(ONE, [cons_dir]), spelled_directions([cons_dir])
         passed(f"{name}, earliest is latest", path, plan, 1337, 1337)
         passed(f"{name}, both the timestamp", path, plan, 1000, 1000)
-        stops(0, 10, f"{name}, timestamp above earliest", path, plan, 999, 1337)
-        expires(0, f"{name}, expiry below latest", path, plan, 1000, 1338)
+        not_passed(f"{name}, timestamp above earliest", path, plan, 999, 1337)
+        not_passed(f"{name}, expiry below latest", path, plan, 1000, 1338)
         for place, which in enumerate(["first", "second", "last"]):
             longer = [[hop._replace(exp_time=1) for hop in ONE[0]]]
             path = built(with_hop(longer, 0, place, exp_time=0), [cons_dir])
             passed(f"{name}, {which} hop's expiry is latest", path, plan, 1000, 1337)
-            expires(place, f"{name}, {which} hop's expiry below latest", path, plan, 1000, 1338)
+            not_passed(f"{name}, {which} hop's expiry below latest", path, plan, 1000, 1338)
 
 
 def clock_readings_by_segment():
     plan = PLANS[2]
     for at, which in enumerate(["first", "second", "third"]):
-        station = STARTS_OF_THREE[at]
         timestamps = [1000, 1000, 1000]
         timestamps[at] = 1001
         path = built(THREE, [0, 1, 0], timestamps)
-        stops(station, 10, f"{which} segment's timestamp above earliest", path, plan, 1000, 1337)
+        not_passed(f"{which} segment's timestamp above earliest", path, plan, 1000, 1337)
         passed(f"{which} segment's timestamp is earliest", path, plan, 1001, 1337)
         timestamps[at] = 999
         path = built(THREE, [0, 1, 0], timestamps)
-        expires(station, f"{which} segment's expiry below latest", path, plan, 1000, 1337)
+        not_passed(f"{which} segment's expiry below latest", path, plan, 1000, 1337)
         passed(f"{which} segment's expiry is latest", path, plan, 1000, 1336)
 
 
 def last_second():
     path = built(ONE, [1], [4294967000])
     passed("expiry 4294967295, the last reading", path, PLANS[0], 4294967000, 4294967295)
-    stops(0, 10, "timestamp 4294967000 above earliest", path, PLANS[0], 4294966999, 4294967295)
+    not_passed("timestamp 4294967000 above earliest", path, PLANS[0], 4294966999, 4294967295)
 
 
 # ---- MACs
@@ -279,18 +266,17 @@ def macs():
             for octet in 0, 1, 5:
                 at = 12 + 12 * place + 6 + octet
                 wrong = edited(path, (at, bytes([path[at] ^ 1])))
-                stops(place, 12, f"{name}, {which} MAC, byte {octet}", wrong, plan)
+                not_passed(f"{name}, {which} MAC, byte {octet}", wrong, plan)
         for station, which in enumerate(["first", "second", "last"]):
             at = 32 * (station + 1) + 8
-            stops(station, 12, f"{name}, {which} station's key", path, edited(plan, (at, b"\xff")))
+            not_passed(f"{name}, {which} station's key", path, edited(plan, (at, b"\xff")))
         last = 32 * 3 + 8 + 15
-        stops(2, 12, f"{name}, last byte of a key", path, edited(plan, (last, b"\xff")))
-        stops(0, 12, f"{name}, SegID", edited(path, (7, bytes([path[7] ^ 1]))), plan)
-        # the first MAC is right in both directions, but the first hop then leaves by 0
-        stops(0, 15, f"{name}, the other direction", edited(path, (4, bytes([1 - cons_dir]))), plan)
+        not_passed(f"{name}, last byte of a key", path, edited(plan, (last, b"\xff")))
+        not_passed(f"{name}, SegID", edited(path, (7, bytes([path[7] ^ 1]))), plan)
+        not_passed(f"{name}, the other direction", edited(path, (4, bytes([1 - cons_dir]))), plan)
         timestamp = edited(path, (11, bytes([path[11] - 1])))
-        stops(0, 12, f"{name}, another timestamp", timestamp, plan, 1000, 1336)
-        stops(1, 12, f"{name}, another ExpTime", edited(path, (25, b"\1")), plan)
+        not_passed(f"{name}, another timestamp", timestamp, plan, 1000, 1336)
+        not_passed(f"{name}, another ExpTime", edited(path, (25, b"\1")), plan)
 
 
 def chains():
@@ -299,10 +285,10 @@ def chains():
     for cons_dir in 1, 0:
         path, name = built(ONE, [cons_dir]), spelled_directions([cons_dir])
         unchained = path_of([3, 0, 0], segment(cons_dir, 0x1234, 1000, ONE[0], chained=False))
-        stops(1, 12, f"{name}, no MAC in the chain", unchained, plan)
-        stops(1, 12, f"{name}, a MAC too few in the chain", with_short_chain(path, ONE[0]), plan)
+        not_passed(f"{name}, no MAC in the chain", unchained, plan)
+        not_passed(f"{name}, a MAC too few in the chain", with_short_chain(path, ONE[0]), plan)
         more = edited(path, (6, numbers(u16(path, 6) ^ u16(path, 18))))
-        stops(0, 12, f"{name}, the first MAC too in the chain", more, plan)
+        not_passed(f"{name}, the first MAC too in the chain", more, plan)
 
 
 def with_short_chain(path, hops):
@@ -321,15 +307,15 @@ def with_short_chain(path, hops):
 
 def macs_of_three():
     path, plan = built(THREE, [1, 0, 1]), PLANS[2]
-    for hop, station in enumerate(STATIONS_OF_THREE):
+    for hop in range(7):
         at = Header(path).hop_at(hop) + 11
-        stops(station, 12, f"three segments, MAC of hop {hop}", edited(path, (at, bytes([path[at] ^ 1]))), plan)
-    for info, station in enumerate(STARTS_OF_THREE):
+        not_passed(f"three segments, MAC of hop {hop}", edited(path, (at, bytes([path[at] ^ 1]))), plan)
+    for info in range(3):
         at = 4 + 8 * info + 3
-        stops(station, 12, f"three segments, SegID {info}", edited(path, (at, bytes([path[at] ^ 1]))), plan)
+        not_passed(f"three segments, SegID {info}", edited(path, (at, bytes([path[at] ^ 1]))), plan)
     for station in range(5):
         at = 32 * (station + 1) + 8 + 15
-        stops(station, 12, f"three segments, key of station {station}", path, edited(plan, (at, b"\xff")))
+        not_passed(f"three segments, key of station {station}", path, edited(plan, (at, b"\xff")))
 
 
 # ---- interfaces
@@ -343,9 +329,9 @@ def ingresses():
             for ingress in 0, 99:
                 other = built(with_hop(ONE, 0, place, ingress=ingress), [cons_dir])
                 label = f"{name}, {which} hop's ingress {ingress}"
-                passed(label, other, plan) if ingress == 0 else stops(place, 9, label, other, plan)
+                passed(label, other, plan) if ingress == 0 else not_passed(label, other, plan)
             at = 32 * (place + 1) + 3
-            stops(place, 9, f"{name}, arrival at the {which} station", path, edited(plan, (at, b"\x63")))
+            not_passed(f"{name}, arrival at the {which} station", path, edited(plan, (at, b"\x63")))
         passed(f"{name}, first hop's ingress 99", built(with_hop(ONE, 0, 0, ingress=99), [cons_dir]), plan)
         passed(f"{name}, last hop's egress 99", built(with_hop(ONE, 0, 2, egress=99), [cons_dir]), plan)
 
@@ -357,14 +343,14 @@ def leaving_interfaces():
         for station, which in enumerate(["first", "second"]):
             table = 4 + station
             other, down = edited(plan, in_record(table, 3, 99)), edited(plan, in_record(table, 4, 2))
-            stops(station, 15, f"{name}, {which} station doesn't list the leaving interface", path, other)
-            stops(station, 17, f"{name}, {which} station's leaving interface is down", path, down)
+            not_passed(f"{name}, {which} station doesn't list the leaving interface", path, other)
+            not_passed(f"{name}, {which} station's leaving interface is down", path, down)
             core = edited(plan, in_record(table, 4, 4))
             passed(f"{name}, {which} station's leaving interface to a core", path, core)
         none = edited(plan, in_record(2, 5, 0))
-        stops(1, 15, f"{name}, second station without a table", path, none)
+        not_passed(f"{name}, second station without a table", path, none)
         by_zero = built(with_hop(ONE, 0, 1, egress=0), [cons_dir])
-        stops(1, 15, f"{name}, leaving by 0, not listed", by_zero, plan)
+        not_passed(f"{name}, leaving by 0, not listed", by_zero, plan)
         passed(f"{name}, leaving by 0, listed as up", by_zero, edited(plan, in_record(5, 3, 0)))
 
 
@@ -384,29 +370,29 @@ def joint_ingresses():
         first = {ingress: built(with_hop(THREE, 0, 1, ingress=ingress), directions) for ingress in (0, 99)}
         second = {ingress: built(with_hop(THREE, 1, 0, ingress=ingress), directions) for ingress in (11, 99)}
         listed = edited(plan, in_record(JOINT_TABLE, 3, 12), in_record(JOINT_TABLE + 1, 3, 99))
-        stops(1, 9, f"{name}, change, first hop's ingress 99, listed", first[99], listed)
-        stops(1, 14, f"{name}, change, first hop's ingress 0, not listed", first[0], plan)
+        not_passed(f"{name}, change, first hop's ingress 99, listed", first[99], listed)
+        not_passed(f"{name}, change, first hop's ingress 0, not listed", first[0], plan)
         passed(f"{name}, change, first hop's ingress 0, listed", first[0], zero)
-        stops(1, 9, f"{name}, change, second hop's ingress 99", second[99], plan)
+        not_passed(f"{name}, change, second hop's ingress 99", second[99], plan)
         passed(f"{name}, change, second hop's ingress is the arrival", second[11], plan)
         passed(f"{name}, change, first hop's egress 99", built(with_hop(THREE, 0, 1, egress=99), directions), plan)
         third = built(with_hop(THREE, 2, 0, ingress=99), directions)
-        stops(3, 9, f"{name}, second change, second hop's ingress 99", third, plan)
+        not_passed(f"{name}, second change, second hop's ingress 99", third, plan)
 
 
 def joint_tables():
     plan = PLANS[2]
     for directions in [1, 0, 1], [0, 1, 0]:
         path = built(THREE, directions)
-        for station, table, which in (1, JOINT_TABLE, "change"), (3, NEXT_JOINT_TABLE, "second change"):
+        for table, which in (JOINT_TABLE, "change"), (NEXT_JOINT_TABLE, "second change"):
             name = f"{spelled_directions(directions)}, {which}"
             unlisted = edited(plan, in_record(table, 3, 10))
-            stops(station, 14, f"{name}, arrival not listed", path, unlisted)
+            not_passed(f"{name}, arrival not listed", path, unlisted)
             passed(f"{name}, arrival's link is down", path, edited(plan, in_record(table, 4, 2)))
             other = edited(plan, in_record(table + 1, 3, 99))
-            stops(station, 15, f"{name}, leaving interface not listed", path, other)
+            not_passed(f"{name}, leaving interface not listed", path, other)
             down = edited(plan, in_record(table + 1, 4, 2))
-            stops(station, 17, f"{name}, leaving interface is down", path, down)
+            not_passed(f"{name}, leaving interface is down", path, down)
 
 
 def link_pairs():
@@ -416,9 +402,9 @@ def link_pairs():
         for out, next_name in enumerate(LINKS):
             states = edited_states(plan, table, 4 + into, 4 + out)
             label = f"{name} to {next_name}"
-            passed(label, path, states) if (into, out) in ALLOWED else stops(1, 16, label, path, states)
+            passed(label, path, states) if (into, out) in ALLOWED else not_passed(label, path, states)
     path, plan = built(THREE, [0, 1, 1]), PLANS[2]
-    stops(3, 16, "core to core at the second change", path, edited_states(plan, NEXT_JOINT_TABLE, 4, 4))
+    not_passed("core to core at the second change", path, edited_states(plan, NEXT_JOINT_TABLE, 4, 4))
     passed("child to core at the second change", path, edited_states(plan, NEXT_JOINT_TABLE, 6, 4))
 
 
@@ -624,131 +610,6 @@ def order():
     refused(24, "(0,0,0), CurrHF 1", b"\1\0\0\0", itinerary_of(stations_for([1])))
 
 
-# ---- where it stops: what the cases above leave open
-
-CORE_UP, CHILD_DOWN = 4, 2
-# the table of a second station at which segments meet
-JOINT = [(11, CHILD_UP), (12, CHILD_UP)]
-
-
-def wrong_mac(path, hop):
-    at = Header(path).hop_at(hop) + 11
-    return edited(path, (at, bytes([path[at] ^ 1])))
-
-
-def with_joint(stations, into, out):
-    """A plan in which the second station's links have other states."""
-    table = [(11, into), (12, out)]
-    return itinerary_of(stations[:1] + [stations[1]._replace(table=table)] + stations[2:])
-
-
-def lengths_on_the_way():
-    """A wrong length is met at its station, and there behind the questions about the hops."""
-    for lengths, count in ([0, 1, 0], 1), ([1, 1, 1], 1), ([1, 0, 2], 2), ([0, 1, 2], 2):
-        used = [length for length in lengths if length]
-        path = built(hops_of(used), [1] * len(used), lengths=lengths)
-        stops(0, 6, spelled_lengths(lengths), path, itinerary_of(stations_for([count])))
-    path, stations = built(with_hop(hops_of([2, 1, 2]), 1, 0, egress=12), [1, 0, 1]), stations_for([2, 1, 2])
-    plan = itinerary_of(stations)
-    stops(1, 18, "(2,1,2)", path, plan)
-    stops(1, 16, "(2,1,2), core to core", path, with_joint(stations, CORE_UP, CORE_UP))
-    stops(1, 17, "(2,1,2), leaving interface is down", path, with_joint(stations, CHILD_UP, CHILD_DOWN))
-    stops(1, 12, "(2,1,2), MAC of the one hop", wrong_mac(path, 2), plan)
-    stops(0, 12, "(2,1,2), first MAC", wrong_mac(path, 0), plan)
-    stops(1, 18, "(2,1,2), last MAC", wrong_mac(path, 4), plan)
-    stations = stations_for([2])[:1] + [Station(11, key(1), JOINT)]
-    path = built(with_hop(hops_of([2, 1]), 1, 0, egress=12), [0, 0])
-    stops(1, 5, "(2,1,0), C clear", path, itinerary_of(stations))
-    stops(1, 16, "(2,1,0), core to core", path, with_joint(stations, CORE_UP, CORE_UP))
-    stops(1, 12, "(2,1,0), last MAC", wrong_mac(path, 2), itinerary_of(stations))
-    path, stations = built(hops_of([2, 2]), [0, 1], lengths=[2, 0, 2]), stations_for([2, 2])
-    stops(1, 16, "(2,0,2), core to core", path, with_joint(stations, CORE_UP, CORE_UP))
-    stops(0, 12, "(2,0,2), first MAC", wrong_mac(path, 0), itinerary_of(stations))
-    path = built(hops_of([4, 2]), [0, 1], lengths=[4, 0, 2])
-    stops(3, 7, "(4,0,2)", path, itinerary_of(stations_for([4, 2])))
-    stations = stations_for([2, 3])[:3] + [Station(31, key(3), [(31, CHILD_UP), (32, CHILD_UP)])]
-    path = built(with_hop(hops_of([2, 3, 1]), 2, 0, egress=32), [0, 1, 0])
-    stops(3, 5, "(2,3,1)", path, itinerary_of(stations))
-
-
-def two_faults():
-    """The earlier station's is given, and of those of one station the earlier question's."""
-    path, plan = built(ONE, [0]), PLANS[0]
-    last, down = wrong_mac(path, 2), edited(plan, in_record(4, 4, CHILD_DOWN))
-    stops(0, 17, "first leaving interface is down, last MAC", last, down)
-    stops(1, 9, "arrival at the second station, last MAC", last, edited(plan, in_record(2, 3, 99)))
-    stops(0, 12, "first MAC, first leaving interface is down", wrong_mac(path, 0), down)
-    stops(0, 10, "timestamp above earliest, first MAC", wrong_mac(path, 0), plan, 999, 1337)
-    stops(0, 11, "expired at earliest, first MAC", wrong_mac(path, 0), plan, 1338, 1338)
-    other = wrong_mac(built(with_hop(ONE, 0, 1, ingress=99), [0]), 1)
-    stops(1, 9, "second hop's ingress 99, its MAC", other, plan)
-    path, plan = built(THREE, [0, 1, 0]), PLANS[2]
-    unlisted = edited(plan, in_record(JOINT_TABLE, 3, 10))
-    stops(1, 12, "change, first MAC, arrival not listed", wrong_mac(path, 1), unlisted)
-    stops(1, 14, "change, arrival not listed, second MAC", wrong_mac(path, 2), unlisted)
-    other = edited(plan, in_record(JOINT_TABLE + 1, 3, 99))
-    stops(1, 15, "change, leaving interface not listed, second MAC", wrong_mac(path, 2), other)
-    pair = edited_states(plan, JOINT_TABLE, CORE_UP, CORE_UP)
-    stops(1, 16, "change, core to core, second MAC", wrong_mac(path, 2), pair)
-    down = edited(plan, in_record(JOINT_TABLE + 1, 4, CHILD_DOWN))
-    stops(1, 12, "change, second MAC, leaving interface is down", wrong_mac(path, 2), down)
-    late = built(with_hop(THREE, 1, 0, ingress=99), [0, 1, 0], [1000, 1001, 1000])
-    stops(1, 9, "change, second hop's ingress 99, its timestamp above earliest", late, plan)
-
-
-def lasting(*exp_times):
-    """Three hops by their ExpTimes: with 0 a hop ends at 1337, with 1 at 1675, with 2 at 2012."""
-    return built([[hop._replace(exp_time=exp_time) for hop, exp_time in zip(ONE[0], exp_times)]], [1])
-
-
-def two_readings():
-    """Where the run at the earliest reading stops, the one at the latest, which stops elsewhere, is not asked."""
-    plan = PLANS[0]
-    for place, which in enumerate(["first", "second", "last"]):
-        exp_times = [1, 1, 1]
-        exp_times[place] = 0
-        path = lasting(*exp_times)
-        stops(place, 11, f"{which} hop's expiry below earliest", path, plan, 1338, 1338)
-        stops(place, 11, f"{which} hop's expiry below earliest, all below latest", path, plan, 1338, 1676)
-    path = lasting(0, 1, 1)
-    stops(2, 12, "last MAC, first hop's expiry below latest", wrong_mac(path, 2), plan, 1000, 1338)
-    down = edited(plan, in_record(5, 4, CHILD_DOWN))
-    stops(1, 17, "second leaving interface is down, first hop's expiry below latest", path, down, 1000, 1338)
-    expires(1, "two expiries below latest", lasting(1, 0, 0), plan, 1000, 1338)
-    expires(1, "two expiries below latest, the later hop's the earlier one", lasting(2, 1, 0), plan, 1000, 1676)
-    expires(0, "three expiries below latest, one after the other", lasting(2, 1, 0), plan, 1000, 2013)
-    path = built(THREE, [0, 1, 0], [1000, 1000, 1001])
-    stops(3, 10, "third timestamp above earliest, first expiry below latest", path, PLANS[2], 1000, 1338)
-    expires(0, "all readings", built(ONE, [0], [0]), plan, 0, 4294967295)
-    stops(0, 10, "all readings, timestamp 1", built(ONE, [0], [1]), plan, 0, 4294967295)
-
-
-def far_stations():
-    for lengths, directions, last in ([63], [1], 62), ([22, 21, 21], [0, 1, 0], 61):
-        longer = [[hop._replace(exp_time=1) for hop in hops] for hops in hops_of(lengths)]
-        path = built(with_hop(longer, len(lengths) - 1, lengths[-1] - 1, exp_time=0), directions)
-        name, plan = f"{sum(lengths)} hops", itinerary_of(stations_for(lengths))
-        expires(last, f"{name}, last hop's expiry below latest", path, plan, 1000, 1338)
-        stops(last, 11, f"{name}, last hop's expiry below earliest", path, plan, 1338, 1676)
-        stops(last // 2, 9, f"{name}, another arrival half-way", path, edited(plan, in_record(last // 2 + 1, 2, 255)))
-
-
-def behind_the_header():
-    """The stop is that of the header alone, whatever follows it."""
-    stops(0, 5, "(0,0,0), 12 bytes behind", bytes(4) + b"\xff" * 12, itinerary_of(stations_for([1])))
-    stops(0, 6, "(1,0,0), another hop behind", built(hops_of([1]), [1]) + b"\xff" * 12, itinerary_of(stations_for([1])))
-    path, plan = built(ONE, [1]), PLANS[0]
-    for size, name in (len(path) + 1, "a byte behind"), (796, "796 bytes"), (797, "797 bytes"), (1024, "1,024 bytes"):
-        stops(2, 12, f"last MAC, {name}", wrong_mac(path, 2).ljust(size, b"\xff"), plan)
-        expires(0, f"expiry below latest, {name}", path.ljust(size, b"\xff"), plan, 1000, 1338)
-    path = built(with_hop(hops_of([2, 1]), 1, 0, egress=12), [1, 1])
-    stations = stations_for([2])[:1] + [Station(11, key(1), JOINT)]
-    stops(1, 5, "(2,1,0), another hop behind", path + path[-12:], itinerary_of(stations))
-    path, plan = built(hops_of([22, 21, 21]), [0, 1, 0]), itinerary_of(stations_for([22, 21, 21]))
-    stops(61, 12, "64 hops, last MAC, 1,024 bytes", wrong_mac(path, 63).ljust(1024, b"\xff"), plan)
-    expires(0, "64 hops, expiry below latest, 1,024 bytes", path.ljust(1024, b"\xff"), plan, 1000, 1338)
-
-
 def put_cases():
     random.seed(1)
     mixes()
@@ -776,8 +637,3 @@ def put_cases():
     alerts()
     free_bits()
     order()
-    lengths_on_the_way()
-    two_faults()
-    two_readings()
-    far_stations()
-    behind_the_header()

@@ -1,7 +1,4 @@
-"""Prints for each of some wrong checks how many cases tell it from the right one, and the first of them.
-
-Ends with status 1 if no case tells one of the wrong stops.
-"""
+"""Prints for each of some wrong checks how many cases tell it from the right one, and the first of them."""
 import sys
 
 sys.dont_write_bytecode = True
@@ -25,127 +22,6 @@ def are_used_hops_quiet(header):
 def has_enough_stations(stations, header, edition):
     return len(stations) >= model.station_count(header, edition)
 
-
-# ---- where a journey stops
-
-stop, stop_at = model.stop, model.stop_at
-
-
-def with_stop(change):
-    """The right stop with other values."""
-
-    def wrong(*given):
-        found = stop(*given)
-        return change(*found) if found else ()
-
-    return wrong
-
-
-def latest_first(stations, path, earliest, latest, edition):
-    late = stop_at(stations, path, latest, edition)
-    return (*late, 1) if late else stop(stations, path, earliest, latest, edition)
-
-
-def of_the_latest(stations, path, earliest, latest, edition):
-    """Where the run at the earliest reading stops, station and number of the other."""
-    found = stop(stations, path, earliest, latest, edition)
-    late = stop_at(stations, path, latest, edition)
-    return (*late, found[2]) if found and late else found
-
-
-def earliest_only(stations, path, earliest, latest, edition):
-    return stop(stations, path, earliest, earliest, edition)
-
-
-def first_at_earliest(stations, path, earliest, latest, edition):
-    """In the second run the first station's clock stays at the earliest reading."""
-    readings = [earliest] + [latest] * (len(stations) - 1)
-    found = stop(stations, path, earliest, earliest, edition)
-    if found or model.arrives(stations, path, readings, edition):
-        return found
-    at, answer = model.journey_end(stations, path, readings, edition)
-    return at, model.number_of(answer), 1
-
-
-def bytes_left(stations, path, reading, edition):
-    """What the run leaves where it ends."""
-    path = bytearray(path)
-    for station in stations:
-        if not model.answer_at(station, path, reading, edition).startswith("ForwardNextHop "):
-            break
-    return bytes(path)
-
-
-def not_restarted(stations, path, earliest, latest, edition):
-    early = stop_at(stations, path, earliest, edition)
-    if early:
-        return *early, 0
-    late = stop_at(stations, bytes_left(stations, path, earliest, edition), latest, edition)
-    return (*late, 1) if late else ()
-
-
-def of_the_next(stations, path, reading, edition):
-    """The number is that of the station behind, on the bytes left."""
-    pair = stop_at(stations, path, reading, edition)
-    if not pair or pair[0] + 1 == len(stations):
-        return pair
-    left = bytearray(bytes_left(stations, path, reading, edition))
-    return pair[0], model.number_of(model.answer_at(stations[pair[0] + 1], left, reading, edition))
-
-
-def by_hop(stations, path, reading, edition):
-    """The hop that the path stands at, in place of the station."""
-    pair = stop_at(stations, path, reading, edition)
-    return pair and (model.Header(bytes_left(stations[: pair[0]], path, reading, edition)).curr_hf, pair[1])
-
-
-def of_the_first(stations, path, reading, edition):
-    """Always the first station's answer."""
-    pair = stop_at(stations, path, reading, edition)
-    return pair and (0, model.number_of(model.answer_at(stations[0], bytearray(path), reading, edition)))
-
-
-def end_unmoved(stations, path, readings, edition):
-    """Each station works on the path as given."""
-    for at, (station, reading) in enumerate(zip(stations, readings)):
-        answer = model.answer_at(station, bytearray(path), reading, edition)
-        if at + 1 == len(stations) or not answer.startswith("ForwardNextHop "):
-            return at, answer
-
-
-def by_lengths_first(stations, path, earliest, latest, edition):
-    """Wrong lengths are told even where another question says no before they are met."""
-    right = model.step_model.ask_ingress
-    if not model.are_lengths_sound(model.Header(path), edition):
-        model.step_model.ask_ingress = unasked
-    try:
-        return stop(stations, path, earliest, latest, edition)
-    finally:
-        model.step_model.ask_ingress = right
-
-
-def of_796_bytes(stations, path, earliest, latest, edition):
-    """Where more bytes are given, none is looked at."""
-    return stop(stations, path if len(path) <= 796 else b"", earliest, latest, edition)
-
-
-STOPS = {
-    "stop: station counted from 1": ("stop", with_stop(lambda at, number, which: (at + 1, number, which))),
-    "stop: station always the first": ("stop", with_stop(lambda at, number, which: (0, number, which))),
-    "stop: the hop in place of the station": ("stop_at", by_hop),
-    "stop: always the first station's answer": ("stop_at", of_the_first),
-    "stop: the number of the station behind": ("stop_at", of_the_next),
-    "stop: each station on the path as given": ("journey_end", end_unmoved),
-    "stop: the reading exchanged": ("stop", with_stop(lambda at, number, which: (at, number, 1 - which))),
-    "stop: the reading always the earliest": ("stop", with_stop(lambda at, number, which: (at, number, 0))),
-    "stop: the latest run's where the earliest stops": ("stop", of_the_latest),
-    "stop: the latest run asked first": ("stop", latest_first),
-    "stop: the earliest run only": ("stop", earliest_only),
-    "stop: first station of the latest run at the earliest": ("stop", first_at_earliest),
-    "stop: the latest run on the bytes that the earliest left": ("stop", not_restarted),
-    "stop: lengths before all other questions": ("stop", by_lengths_first),
-    "stop: nothing looked at where there are more than 796 bytes": ("stop", of_796_bytes),
-}
 
 # the function of journey.py that is wrong, and what stands for it
 WRONG = {
@@ -200,13 +76,11 @@ WRONG = {
     "alerts asked of the used hops": ("is_unalerted", are_used_hops_quiet),
     "one alert bit not asked": ("is_unalerted", lambda header: model.are_quiet(header, header.hops, 2)),
     "the other not asked": ("is_unalerted", lambda header: model.are_quiet(header, header.hops, 1)),
-    **STOPS,
 }
 
 
 def main():
     journey_cases.put_cases()
-    untold = 0
     for name, (function, wrong) in WRONG.items():
         right, told = getattr(model, function), []
         setattr(model, function, wrong)
@@ -214,9 +88,7 @@ def main():
             if answer != model.verdict(model.passes, *given):
                 told.append(label)
         setattr(model, function, right)
-        untold += name in STOPS and not told
         print(f"{name}: {len(told)} of {len(journey_cases.CASES)}" + (f", first '{told[0]}'" if told else ""))
-    sys.exit(untold != 0)
 
 
 if __name__ == "__main__":

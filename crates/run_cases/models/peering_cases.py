@@ -114,14 +114,13 @@ def model_journey(does_pass, path, itinerary, earliest, latest, edition):
 
 
 def journey(expected, label, path, plan, earliest=1000, latest=1337):
-    """`expected`: the answers in the first edition and in the second, by their numbers."""
+    """`expected`: the numbers in the first edition and in the second."""
     itinerary = itinerary_of(plan)
     script.put("itinerary", itinerary)
-    for edition, answer in zip(EDITIONS, expected):
+    for edition, number in zip(EDITIONS, expected):
         given = path, itinerary, earliest, latest, edition
         text, driven = model_journey(model.passes, *given), model_journey(model.travels, *given)
-        assert text == driven == str(answer), (label, edition, text, driven, answer)
-        model.check_stop(*given)
+        assert text == driven == str(number), (label, edition, text, driven, number)
         script.call("journey", label, path, path, text, earliest, latest, edition=edition)
     CASES.append(("journey", label, path, itinerary, earliest, latest))
     ANSWERS.append((text, path))
@@ -388,17 +387,7 @@ def itinerary_of(stations):
     return b"".join(octets.ljust(32, b"\0") for octets in [numbers(1 if stations else 0)] + records + tables)
 
 
-PASSED = 120
-
-
-def stopped(station, number):
-    """Not passed: with every clock at the earliest reading it ends at this station, with this number."""
-    return f"121 {station} {number} 0"
-
-
-def expired(station):
-    """Not passed, but with every clock at the earliest reading it arrives."""
-    return f"121 {station} 11 1"
+PASSED, FAILED = 120, 121
 
 
 def with_station(stations, at, **fields):
@@ -420,16 +409,15 @@ def journeys():
 def counts():
     path, plan = built(signed_hops([2, 2]), [0, 1]), stations_for(4)
     journey([23, 23], "a station more", path, stations_for(5))
-    # in the first edition the peering hop's own MAC is missing in its chain
-    journey([stopped(1, 12), 23], "a station less", path, stations_for(3))
+    journey([FAILED, 23], "a station less", path, stations_for(3))
     for flags in [0, 0], [2, 0], [0, 2], [4, 4]:
         other = built(signed_hops([2, 2]), [0, 1], flags)
         journey([23, 23], f"P bits {flags}, a station for each hop", other, plan)
-    for lengths, stops in ([1, 1], [stopped(0, 6)] * 2), ([2, 1], [stopped(1, 12), stopped(0, 28)]):
+    for lengths in [1, 1], [2, 1]:
         other = built(signed_hops(lengths), [0, 1], [2, 0])
         journey([23, 23], f"{spelled(lengths)}, P in one, a station for each hop", other, stations_for(sum(lengths)))
         fewer = stations_for(sum(lengths) - 1)
-        journey(stops, f"{spelled(lengths)}, P in one, a station less", other, fewer)
+        journey([FAILED, FAILED], f"{spelled(lengths)}, P in one, a station less", other, fewer)
     journey([23, 24], "not at the start", edited(path, (0, 1)), plan)
     journey([23, 25], "alert at a peering hop", edited(path, (hop_place(path, 1, 0), 1)), plan)
     journey([23, 23], "unsound, and P misplaced", built(signed_hops([2, 2]), [0, 1], [2, 0]), plan[:3] + [plan[2]])
@@ -460,15 +448,15 @@ def misplaced_journeys():
     for name, lengths, flags, declared in MISPLACED:
         segments, stations = meeting(lengths)
         path = built(segments, [0, 1, 1], flags, lengths=declared, chained=True)
-        first = stopped(1, 7) if declared == [2, 0, 2] else PASSED
-        journey([first, stopped(0, 28)], f"{name}, segments that meet", path, stations)
+        first = FAILED if declared == [2, 0, 2] else PASSED
+        journey([first, FAILED], f"{name}, segments that meet", path, stations)
         clear = built(segments, [0, 1, 1], 0, lengths=declared, chained=True)
         journey([first, first], f"{name}, without P", clear, stations)
     segments, stations = meeting(TWO)
     path = built(segments, [0, 1], PEERING, chained=True)
     journey([PASSED, 23], "a path of two segments that meet, P in both", path, stations)
     path = built(segments, [0, 1], PEERING, lengths=[0, 2, 2], chained=True)
-    journey([stopped(0, 7)] * 2, "(0,2,2), P in both, segments that meet", path, stations)
+    journey([FAILED, FAILED], "(0,2,2), P in both, segments that meet", path, stations)
 
 
 def macs():
@@ -478,26 +466,24 @@ def macs():
         path = built(signed_hops(lengths), directions)
         for hop in range(6):
             place = hop_place(path, hop, 11)
-            wrong = edited(path, (place, path[place] ^ 1))
-            journey([23, stopped(hop, 12)], f"{name}, MAC of hop {hop}", wrong, plan)
+            journey([23, FAILED], f"{name}, MAC of hop {hop}", edited(path, (place, path[place] ^ 1)), plan)
         chained = built(signed_hops(lengths), directions, chained=True)
-        # found out at the peering hop against construction, behind it with construction
-        for at, station in enumerate([2, 4]):
+        for at in range(2):
             # in the other direction no chain reaches the peering hop
             if directions[at] == at:
-                mixed, label = with_segment(path, chained, at), f"{name}, peering head in the chain of segment {at}"
-                journey([23, stopped(station, 12)], label, mixed, plan)
-        journey([23, stopped(2, 12)], f"{name}, keys of the peering hops exchanged", path, exchanged(plan))
+                mixed = with_segment(path, chained, at)
+                journey([23, FAILED], f"{name}, peering head in the chain of segment {at}", mixed, plan)
+        journey([23, FAILED], f"{name}, keys of the peering hops exchanged", path, exchanged(plan))
         segment_id = edited(path, (7, path[7] ^ 1))
-        journey([23, stopped(0, 12)], f"{name}, SegID of the first", segment_id, plan)
+        journey([23, FAILED], f"{name}, SegID of the first", segment_id, plan)
         segment_id = edited(path, (15, path[15] ^ 1))
-        journey([23, stopped(3, 12)], f"{name}, SegID of the second", segment_id, plan)
+        journey([23, FAILED], f"{name}, SegID of the second", segment_id, plan)
     for directions in DIRECTIONS:
         path = built(signed_hops([1, 1]), directions)
         for hop in range(2):
             place, plan = hop_place(path, hop, 11), stations_for(2)
             label = f"{spelled([1, 1], directions)}, MAC of hop {hop}"
-            journey([23, stopped(hop, 12)], label, edited(path, (place, path[place] ^ 1)), plan)
+            journey([23, FAILED], label, edited(path, (place, path[place] ^ 1)), plan)
 
 
 def with_segment(path, other, at):
@@ -518,11 +504,11 @@ def clocks():
         longer = [[hop._replace(exp_time=1) for hop in hops] for hops in signed_hops(lengths)]
         path = built(with_hop(longer, at, 1 - at, exp_time=0), [0, 1])
         journey([23, PASSED], f"{which} peering hop's expiry is latest", path, plan)
-        journey([23, expired(at + 1)], f"{which} peering hop's expiry below latest", path, plan, 1000, 1338)
+        journey([23, FAILED], f"{which} peering hop's expiry below latest", path, plan, 1000, 1338)
         timestamps = [1000, 1000, 1000]
         timestamps[at] = 1001
         path = built(signed_hops(lengths), [0, 1], timestamps=timestamps)
-        journey([23, stopped(2 * at, 10)], f"{which} segment's timestamp above earliest", path, plan)
+        journey([23, FAILED], f"{which} segment's timestamp above earliest", path, plan)
         journey([23, PASSED], f"{which} segment's timestamp is earliest", path, plan, 1001, 1337)
 
 
@@ -536,130 +522,15 @@ def links():
         journey([23, PASSED], f"second peering hop between links of state {state}", path, other)
     for station, which in (1, "first"), (2, "second"):
         down = with_station(plan, station, table=[(leaving(station), 3)])
-        journey([23, stopped(station, 17)], f"{which} peering hop's leaving link down", path, down)
+        journey([23, FAILED], f"{which} peering hop's leaving link down", path, down)
         unlisted = with_station(plan, station, table=[(99, PEER_UP)])
-        journey([23, stopped(station, 15)], f"{which} peering hop's leaving interface not listed", path, unlisted)
+        journey([23, FAILED], f"{which} peering hop's leaving interface not listed", path, unlisted)
         other = with_station(plan, station, arrival=99)
-        journey([23, stopped(station, 9)], f"{which} peering hop, another arrival", path, other)
+        journey([23, FAILED], f"{which} peering hop, another arrival", path, other)
         free = with_hop(signed_hops(lengths), station - 1, 2 - station, ingress=0)
         journey([23, PASSED], f"{which} peering hop, ingress 0", built(free, [0, 1]), other)
         zero = with_station(plan, station, arrival=0)
         journey([23, 23], f"{which} peering hop, arrival 0", path, zero)
-
-
-# ---- where a journey stops: what the cases above leave open
-
-
-def wrong_mac(path, hop):
-    place = hop_place(path, hop, 11)
-    return edited(path, (place, path[place] ^ 1))
-
-
-def lasting(segments, place):
-    """Hops that end at 1675, but the one at this place at 1337."""
-    longer = [[hop._replace(exp_time=1) for hop in hops] for hops in segments]
-    at = 0 if place < len(segments[0]) else 1
-    return with_hop(longer, at, place - at * len(segments[0]), exp_time=0)
-
-
-def stops_on_a_peering_path():
-    lengths, plan = [2, 2], stations_for(4)
-    for hop in range(4):
-        path = built(lasting(signed_hops(lengths), hop), [1, 0])
-        journey([23, expired(hop)], f"hop {hop}'s expiry below latest", path, plan, 1000, 1338)
-        journey([23, stopped(hop, 11)], f"hop {hop}'s expiry below earliest", path, plan, 1338, 1338)
-        label = f"hop {hop}'s expiry below earliest, all below latest"
-        journey([23, stopped(hop, 11)], label, path, plan, 1338, 1676)
-    path = built(signed_hops(lengths), [0, 1])
-    down = with_station(plan, 1, table=[(leaving(1), 3)])
-    journey([23, stopped(1, 17)], "peering link down, last MAC", wrong_mac(path, 3), down)
-    journey([23, stopped(1, 12)], "peering link down, MAC of its hop", wrong_mac(path, 1), down)
-    journey([23, stopped(1, 17)], "peering link down, expiry below latest", path, down, 1000, 1338)
-    journey([23, stopped(1, 17)], "peering link down, 12 bytes behind", path + b"\xff" * 12, down)
-    journey([23, stopped(0, 15)], "first station without a table", path, with_station(plan, 0, table=[]))
-    journey([23, stopped(3, 9)], "last station, another arrival", path, with_station(plan, 3, arrival=99))
-    for lengths in [63, 1], [1, 63], [32, 32]:
-        path, plan = built(lasting(signed_hops(lengths), 63), [0, 1]), stations_for(64)
-        name = f"{spelled(lengths)}, last hop"
-        journey([23, stopped(63, 12)], f"{name}, MAC", wrong_mac(path, 63), plan)
-        journey([23, expired(63)], f"{name}, expiry below latest", path, plan, 1000, 1338)
-    behind = wrong_mac(path, 63).ljust(1024, b"\xff")
-    journey([23, stopped(63, 12)], f"{name}, MAC, 1,024 bytes", behind, plan)
-
-
-def stops_at_a_joint():
-    """A peering path in the first edition, its segments meeting in one AS. The second edition counts other stations."""
-    segments, stations = meeting(TWO)
-    path = built(segments, [0, 1], PEERING, chained=True)
-    table = [(arrival(1), PEER_UP), (leaving(1), PEER_UP)]
-    journey([stopped(1, 16), 23], "peer to peer where segments meet", path, with_station(stations, 1, table=table))
-    journey([stopped(2, 12), 23], "segments that meet, last MAC", wrong_mac(path, 3), stations)
-    journey([expired(0), 23], "segments that meet, expiry below latest", path, stations, 1000, 1338)
-
-
-def stops_by_peering():
-    """28 is the first station's, before what it asks of its hop; 6 and 7 come before it."""
-    segments, stations = meeting(ONE)
-    path = built(segments, [1], [2])
-    journey([stopped(0, 11), stopped(0, 28)], "one segment, P, expired", path, stations, 1338, 1338)
-    journey([stopped(0, 10), stopped(0, 28)], "one segment, P, timestamp above earliest", path, stations, 999, 1337)
-    journey([expired(0), stopped(0, 28)], "one segment, P, expiry below latest", path, stations, 1000, 1338)
-    journey([stopped(0, 12), stopped(0, 28)], "one segment, P, first MAC", wrong_mac(path, 0), stations)
-    journey([stopped(2, 12), stopped(0, 28)], "one segment, P, last MAC", wrong_mac(path, 2), stations)
-    for lengths, flags, stops in [
-        ([1, 0, 0], [2], [stopped(0, 6)] * 2),
-        ([0, 1, 0], [2], [stopped(0, 6)] * 2),
-        ([1, 1, 1], [2, 2, 2], [stopped(0, 6)] * 2),
-        ([0, 2, 0], [2], [stopped(0, 7)] * 2),
-        ([2, 1, 0], [0, 2], [stopped(1, 5), stopped(0, 28)]),
-        ([2, 1, 2], [2, 2, 0], [stopped(1, 18), stopped(0, 28)]),
-    ]:
-        path, stations = with_lengths(lengths, flags)
-        journey(stops, f"{spelled(lengths)}, P in {sum(map(bool, flags))} of {len(flags)}", path, stations)
-
-
-def with_lengths(lengths, flags):
-    """A path and stations that fit but for the lengths: a one-hop segment has the links of a change."""
-    used = [length for length in lengths if length]
-    segments, stations = meeting(used)
-    if lengths[:2] == [2, 1]:
-        segments = with_hop(segments, 1, 0, egress=leaving(1))
-        stations = with_station(stations, 1, table=[(arrival(1), CHILD_UP), (leaving(1), CHILD_UP)])
-    return built(segments, [1, 1, 1], flags, lengths=lengths, chained=True), stations
-
-
-def stops_without_peering():
-    """Each number, where P is set nowhere: the same in both editions."""
-    for number, station, lengths in [
-        (5, 0, [0, 0, 0]),
-        (5, 1, [2, 1, 0]),
-        (6, 0, [1, 0, 0]),
-        (7, 0, [0, 2, 0]),
-        (7, 1, [2, 0, 2]),
-        (18, 1, [2, 1, 2]),
-    ]:
-        path, stations = with_lengths(lengths, 0) if any(lengths) else (bytes(4), stations_for(1))
-        journey([stopped(station, number)] * 2, f"without P, {spelled(lengths)}", path, stations)
-    for lengths in [2, 1, 0], [2, 0, 2]:
-        path, stations = with_lengths(lengths, 0)
-        core = with_station(stations, 1, table=[(arrival(1), 4), (leaving(1), 4)])
-        journey([stopped(1, 16)] * 2, f"without P, {spelled(lengths)}, core to core", path, core)
-    segments, stations = meeting(TWO)
-    path = built(segments, [0, 1], 0, chained=True)
-    into, out = (arrival(1), CHILD_UP), (leaving(1), CHILD_UP)
-    for number, table in [
-        (14, [out]),
-        (15, [into]),
-        (16, [(arrival(1), 4), (leaving(1), 4)]),
-        (17, [into, (leaving(1), 2)]),
-    ]:
-        other = with_station(stations, 1, table=table)
-        journey([stopped(1, number)] * 2, f"without P, {number}", path, other)
-    journey([stopped(1, 9)] * 2, "without P, 9", path, with_station(stations, 1, arrival=99))
-    journey([stopped(2, 12)] * 2, "without P, 12", wrong_mac(path, 3), stations)
-    journey([stopped(0, 10)] * 2, "without P, 10", path, stations, 999, 1337)
-    journey([stopped(0, 11)] * 2, "without P, 11", path, stations, 1338, 1338)
-    journey([expired(0)] * 2, "without P, 11 at the latest reading", path, stations, 1000, 1338)
 
 
 def put_cases():
@@ -678,7 +549,3 @@ def put_cases():
     macs()
     clocks()
     links()
-    stops_on_a_peering_path()
-    stops_at_a_joint()
-    stops_by_peering()
-    stops_without_peering()

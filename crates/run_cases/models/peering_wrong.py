@@ -5,14 +5,13 @@ Ends with status 1 if no case tells one of them.
 import sys
 
 sys.dont_write_bytecode = True
-import journey_wrong
 import peering_cases
 from peering_cases import model, step_model
 
 ask_peering, ask_info_fields, ask_arrival = step_model.ask_peering, step_model.ask_info_fields, step_model.ask_arrival
 go_in, go_out, steps = step_model.go_in, step_model.go_out, step_model.steps_at_ingress
 is_first, is_second = step_model.is_first_peering_hop, step_model.is_second_peering_hop
-mac_in_chain, leaves_by_up, stop = model.mac_in_chain, model.leaves_by_up, model.stop
+mac_in_chain, leaves_by_up = model.mac_in_chain, model.leaves_by_up
 
 
 def stepping_at(is_hop):
@@ -78,17 +77,6 @@ def starting_behind_peering(header, hop, edition):
     return bytes(6) if is_start else mac_in_chain(header, hop, edition)
 
 
-def stop_by_the_first(stations, path, earliest, latest, edition):
-    return stop(stations, path, earliest, latest, 1)
-
-
-def stop_by_peering_first(stations, path, earliest, latest, edition):
-    """28 even where 6 or 7 comes before it."""
-    if step_model.is_peering_sound(model.Header(path), edition):
-        return stop(stations, path, earliest, latest, edition)
-    return 0, 28, 0
-
-
 # what is wrong: the functions that are, and what stands for them
 WRONG = {
     "beta step at ingress of the first peering hop": {"steps_at_ingress": stepping_at(is_first)},
@@ -120,14 +108,11 @@ WRONG = {
     "check: the peering link not asked up": {
         "leaves_by_up": lambda table, egress: leaves_by_up([(n, s | 4) for n, s in table], egress)
     },
-    "stop: by the first edition's step": {"stop": stop_by_the_first},
-    "stop: 28 before 6 and 7": {"stop": stop_by_peering_first},
-    **{name: {function: wrong} for name, (function, wrong) in journey_wrong.STOPS.items()},
 }
 
 
 def answer(name, path, *given):
-    """In the second edition, with the bytes left; of a wrong journey the verdict by its conditions, and its stop."""
+    """In the second edition, with the bytes left; a wrong journey's by its conditions."""
     try:
         if name == "journey":
             return peering_cases.model_journey(model.passes, path, *given, 2), path

@@ -1,14 +1,17 @@
 -- What the loop along a segment owes: the SegID and the station's record of a hop, each from those of the hop before it.
 -- Assumes nothing.
 use mathlib.Core.Path.{◌≡◌, refl, ◌∙◌}
-use mathlib.Core.Bool.{Bool, false}
+use mathlib.Core.Bool.{Bool, true, false, cond}
 use mathlib.Core.List.{List}
-use Prim.Native.Nat.{ℕ, ◌+◌, ◌-◌, ◌≤◌, ◌<◌}
+use mathlib.Core.Logic.{◌⊎◌, ⊎_elim}
+use Prim.Native.Nat.{ℕ, zero, suc, ◌+◌, ◌-◌, ◌≤◌, ◌<◌}
+use native.Mathlib.Omega.{arith}
 use borrow.Author.Tests.{lt-leb, le-leb}
 use native.Mathlib.Numerals.{add-one}
 use lib.Dec.{eqb, leb}
 use Rattle.aes.specs.ByTable.{round_table}
-use Rattle.fields.specs.Fields.{seg_id, timestamp}
+use Rattle.hop_mac.specs.Mac.{mac_beta_step, mac_chaining_beta}
+use Rattle.fields.specs.Fields.{by_direction, cons_dir, seg_id, timestamp, mac_field}
 use Rattle.standard_path.specs.Header.{info_field}
 use Rattle.edition.specs.declared.Edition.{Edition}
 use Rattle.records.specs.Layout.{Layout}
@@ -17,12 +20,29 @@ use Rattle.station.specs.Station.{Station, station_at}
 use Rattle.hop_check.specs.Hop.{hop_fits}
 use Rattle.hop_check.specs.Inner.{key_mac_by}
 use Rattle.hop_check.proofs.Lent.{hop_read}
-use Rattle.segment_chain.specs.Chain.{chained_seg_id, count_of, hop_of, peering_hop_of}
-use Rattle.segment_chain.specs.Inner.{chain_step}
-use Rattle.segment_chain.proofs.Chain.{chained_none}
-use Rattle.segment_chain.proofs.Lent.{chain_lent}
-use Rattle.segment_check.specs.Segment.{each_below, hop_fits_at, segment_fits}
+use Rattle.segment_check.specs.Segment.{each_below, macs_from, chained_seg_id, hop_fits_at, segment_fits, count_of, hop_of, peering_hop_of}
+use Rattle.segment_check.proofs.Chain.{chain_one_more}
 use Rattle.segment_check.proofs.All.{Asked, asked_none}
+
+module _ (peer : ℕ → Bool) (info : List ℕ) (hop : ℕ → List ℕ) where
+  chained_none : seg_id info ≡ chained_seg_id peer info hop 0
+  unfolding chained_seg_id macs_from mac_chaining_beta
+  chained_none = refl
+
+  pub chained_more : (m : ℕ) {before next stepped : ℕ} {field : List ℕ} → 0 < m → before ≡ chained_seg_id peer info hop (m - 1)
+      → stepped ≡ by_direction (cons_dir info) 0 1 + (m - 1) → field ≡ hop stepped
+      → next ≡ cond (peer stepped) before (mac_beta_step before (mac_field field))
+      → next ≡ chained_seg_id peer info hop m
+  chained_more zero h e s f q = absurd (omega arith)
+  chained_more (suc m) {before} {next} {stepped} {field} h e s f q =
+      let less : suc m - 1 ≡ m = omega arith in
+      rw (chain_one_more peer hop info m, ← less, ← e, ← s, ← f) q
+
+-- the place of the MAC that goes in: the first one's, and so many on
+pub stepped_place : (info : List ℕ) (m : ℕ) {A B : Type 0} {first : ℕ} → (A × (first ≡ 0)) ⊎ (B × (first ≡ 1))
+    → (A → cons_dir info ≡ true) → (B → cons_dir info ≡ false) → 0 < m → first + m - 1 ≡ by_direction (cons_dir info) 0 1 + (m - 1)
+stepped_place info m {A} {B} {first} came set clear h =
+    ⊎_elim (λ w. rw (w.1, set w.0) (omega arith)) (λ w. rw (w.1, clear w.0) (omega arith)) came
 
 -- ---- a walk along a segment: `done` of its hops have been asked, and the walk stands at the next one
 
@@ -46,17 +66,8 @@ walked_none edition layout itinerary first latest path segment e =
       asked = asked_none _ _;
       reached = refl;
       chained = e
-          ∙ chained_none (peering_hop_of edition path segment) (hop_of path segment) (info_field path segment);
+          ∙ chained_none (peering_hop_of edition path segment) (info_field path segment) (hop_of path segment);
     }
-
--- the SegID of the next hop
-pub chained_next : {edition : Edition} {layout : Layout} {itinerary : List ℕ} {first latest : ℕ} {path : List ℕ}
-    {segment station before done : ℕ} → Walked edition layout itinerary first latest path segment station before done → {segment-id : ℕ}
-    → done < 64
-    → segment-id ≡ chain_step (peering_hop_of edition path segment) (info_field path segment) (hop_of path segment) before done
-    → segment-id ≡ chained_seg_id (peering_hop_of edition path segment) (info_field path segment) (hop_of path segment) done
-chained_next {edition} {layout} {itinerary} {first} {latest} {path} {segment} {station} {before} {done} walked few e =
-    e ∙ chain_lent (peering_hop_of edition path segment) (info_field path segment) (hop_of path segment) done few walked.chained
 
 -- the answer for the next hop, from what was read of it
 pub hop_answered : {edition : Edition} {layout : Layout} {itinerary : List ℕ} {first latest : ℕ} {path : List ℕ}

@@ -1,2 +1,3 @@
 // The check of a path's segments: does each hop of a segment fit its station, from a given record of the itinerary on?
+pub mod hops;
 pub mod segments;

@@ -1,15 +1,16 @@
 // What is asked of each segment of a path, at the stations from a record on that its first hop goes to.
-ghost use Rattle.std.specs.Prelude.{◌≡◌, get_or};
+ghost use Rattle.std.specs.Prelude.{◌≡◌, ◌-◌, ◌<◌, get_or};
 ghost use Rattle.aes.specs.ByTable.{round_table};
-ghost use Rattle.standard_path.specs.Header.{infos};
+ghost use Rattle.standard_path.specs.Header.{infos, info_field};
 ghost use Rattle.records.specs.Layout.{layout_of};
 ghost use Rattle.records.specs.Records.{record_after};
-ghost use Rattle.segment_check.specs.Segment.{each_below, segment_fits_from};
+ghost use Rattle.segment_check.specs.Segment.{each_below, hop_of, peering_hop_of, chained_seg_id, segment_fits_from};
 
+use crate::hops;
 use edition::Edition;
 use hop_check::hop_fits;
+use hop_mac::mac_beta_step;
 use records::form::Form;
-use segment_chain::{chained_segment_id, hops};
 use standard_path::view;
 
 // ---- a segment
@@ -22,6 +23,27 @@ fn next_station(form: Form, itinerary: &[u8], station: u32) -> u32
         return 0;
     }
     records::next(form, itinerary, station)
+}
+
+// The SegID that a hop is checked with, from that of the hop before it: that hop's MAC goes in, or, against construction, its own. So
+// the MACs that go in are those from the first on, or from the second.
+fn chained_segment_id(edition: Edition, path: &[u8], segment: u8, before: u16, hop: u8) -> u16
+    requires chained { before ≡ chained_seg_id (peering_hop_of edition path.now segment) (info_field path.now segment)
+        (hop_of path.now segment) (hop - 1) }
+    requires short { hop < 64 }
+    ensures { result ≡ chained_seg_id (peering_hop_of edition path.now segment) (info_field path.now segment)
+        (hop_of path.now segment) hop }
+{
+    let cons_dir = fields::cons_dir(view::info_field(path, segment));
+    if hop < 1 {
+        return before;
+    }
+    let first: u8 = if cons_dir { 0 } else { 1 };
+    let stepped = first + hop - 1;
+    if hops::is_peering_hop(edition, path, segment, stepped) {
+        return before;
+    }
+    mac_beta_step(before, fields::mac(hops::hop_of(path, segment, stepped)))
 }
 
 // A segment whose first hop is at the station with this record.

@@ -1,4 +1,4 @@
--- A path that has the same segment lengths, and one that is as long, too; what one store into it keeps, and the bytes of a field.
+-- A path that is as long and has the same segment lengths; what one store into it keeps, and the bytes of a field.
 -- Assumes nothing.
 use mathlib.Core.Path.{◌≡◌, refl, ap, sym, ◌∙◌}
 use mathlib.Core.Bool.{Bool, true, false}
@@ -15,36 +15,13 @@ use Rattle.fields.specs.Layout.{info_offset, hop_offset}
 use Rattle.standard_path.specs.Meta.{seg0_len, seg1_len, seg2_len}
 use Rattle.standard_path.specs.Header.{infos, hops, header_size, info_field, hop_field, header_check}
 
--- ---- a path that has the same segment lengths
-
-pub record SameLengths (path after : List ℕ) : Type 0 where
-  pub seg0 : seg0_len after ≡ seg0_len path
-  pub seg1 : seg1_len after ≡ seg1_len path
-  pub seg2 : seg2_len after ≡ seg2_len path
-
-module _ {path after : List ℕ} (same : SameLengths path after) where
-  pub infos_same : infos after ≡ infos path
-  unfolding infos
-  infos_same = rw (same.seg0, same.seg1, same.seg2)
-
-  pub hops_same : hops after ≡ hops path
-  unfolding hops
-  hops_same = rw (same.seg0, same.seg1, same.seg2)
-
-  pub header_size_same : header_size after ≡ header_size path
-  unfolding header_size
-  header_size_same = rw (infos_same, hops_same)
-
--- ---- and is as long
+-- ---- a path that is as long, and has the same segment lengths
 
 pub record Kept (path after : List ℕ) : Type 0 where
   pub size : length after ≡ length path
   pub seg0 : seg0_len after ≡ seg0_len path
   pub seg1 : seg1_len after ≡ seg1_len path
   pub seg2 : seg2_len after ≡ seg2_len path
-
-pub lengths_kept : {path after : List ℕ} → Kept path after → SameLengths path after
-lengths_kept k = record { seg0 = k.seg0; seg1 = k.seg1; seg2 = k.seg2 }
 
 pub kept_self : (path : List ℕ) → Kept path path
 kept_self path = record { size = refl; seg0 = refl; seg1 = refl; seg2 = refl }
@@ -55,13 +32,16 @@ kept_trans k l =
 
 module _ {path after : List ℕ} (k : Kept path after) where
   pub infos_kept : infos after ≡ infos path
-  infos_kept = infos_same (lengths_kept k)
+  unfolding infos
+  infos_kept = rw (k.seg0, k.seg1, k.seg2)
 
   pub hops_kept : hops after ≡ hops path
-  hops_kept = hops_same (lengths_kept k)
+  unfolding hops
+  hops_kept = rw (k.seg0, k.seg1, k.seg2)
 
   pub header_size_kept : header_size after ≡ header_size path
-  header_size_kept = header_size_same (lengths_kept k)
+  unfolding header_size
+  header_size_kept = rw (infos_kept, hops_kept)
 
   pub header_check_kept : header_check after ≡ header_check path
   unfolding header_check

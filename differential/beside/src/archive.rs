@@ -74,8 +74,8 @@ pub fn segment_index(path: &[u8], hop: u8) -> Result<Option<(usize, bool, bool)>
     }
 }
 
-/// Passed, not passed with where the journey stops, or a refusal.
-pub fn check_journey(path: &[u8], itinerary: &[u8], earliest: u32, latest: u32) -> ScionReply {
+/// Passed, not passed, or the number of a refusal.
+pub fn check_journey(path: &[u8], itinerary: &[u8], earliest: u32, latest: u32) -> u16 {
     // SAFETY: pointers and lengths of slices that are borrowed for the call
     unsafe {
         scion_check_journey(
@@ -87,6 +87,7 @@ pub fn check_journey(path: &[u8], itinerary: &[u8], earliest: u32, latest: u32) 
             latest,
         )
     }
+    .number
 }
 
 /// The same in an edition.
@@ -96,7 +97,7 @@ pub fn check_journey_in_edition(
     itinerary: &[u8],
     earliest: u32,
     latest: u32,
-) -> ScionReply {
+) -> u16 {
     // SAFETY: pointers and lengths of slices that are borrowed for the call
     unsafe {
         scion_check_journey_in_edition(
@@ -109,6 +110,7 @@ pub fn check_journey_in_edition(
             latest,
         )
     }
+    .number
 }
 
 pub fn hop_mac(

@@ -31,13 +31,16 @@ fn main() -> ExitCode {
     inputs::lengths::needed_sizes(seed as usize % of, of, &mut |case| run.compare(case));
     inputs::lengths::places(seed, seed as usize % of, of, &mut |case| run.compare(case));
     let indices = segment_indices(seed as usize % of, of, &mut run);
-    let journeys = plans::compare(seed, journeys, &mut run.different);
+    let plans::Report {
+        verdicts,
+        in_second,
+    } = plans::compare(seed, journeys, &mut run.different);
 
     println!("{}", run.counts);
-    println!("{indices} segment indices; {journeys}");
+    println!("{} segment indices; journeys: {verdicts}", indices);
     println!(
-        "without P, in the second edition as in the first: {} calls, {} journeys",
-        run.in_second, journeys.in_second
+        "without P, in the second edition as in the first: {} calls, {in_second} journeys",
+        run.in_second
     );
     println!(
         "{} calls compared, {} by the scope alone (1 or 4), {} different, {:.0} s",

@@ -1,16 +1,10 @@
 //! The journey check beside journeys that are driven on the published Rust.
 //!
 //! A call that the check lets through has to be passed exactly if the path arrives with every clock at the earliest reading and
-//! with every clock at the latest; a passed one has to arrive with any other readings too. One that is not passed has to have the
-//! station where the first of the two journeys stops, or else the second, the number of its step, and which of the two it is.
-
-use std::{collections::BTreeMap, fmt};
+//! with every clock at the latest; a passed one has to arrive with any other readings too.
 
 use oracle::{inputs::rng::Rng, number};
-use scion_step_sys::{
-    SCION_NOT_PASSED as NOT_PASSED, SCION_PASSED as PASSED, SCION_READING_EARLIEST,
-    SCION_READING_LATEST, ScionReply,
-};
+use scion_step_sys::{SCION_NOT_PASSED as NOT_PASSED, SCION_PASSED as PASSED};
 use sciparse::dataplane_path::standard::mac::algo::{calculate_hop_mac, mac_beta_step};
 
 use crate::{archive, has_p};
@@ -32,12 +26,9 @@ pub struct Call {
     pub latest: u32,
 }
 
-#[derive(Default)]
 pub struct Report {
     /// Counts of each verdict.
-    pub verdicts: BTreeMap<u16, u64>,
-    /// Counts of the numbers that journeys stop by, with every clock at the earliest reading and at the latest.
-    pub stops: [BTreeMap<u16, u64>; 2],
+    pub verdicts: String,
     /// How many have no P, so that the second edition has to give the same verdict.
     pub in_second: u64,
 }
@@ -45,117 +36,69 @@ pub struct Report {
 /// The check without an edition and in the first by turns.
 pub fn compare(seed: u64, journeys: u64, different: &mut u64) -> Report {
     let mut rng = Rng::new(seed);
-    let mut report = Report::default();
+    let mut counts = std::collections::BTreeMap::new();
+    let mut in_second = 0;
     for turn in 0..journeys {
         let lengths = random_lengths(&mut rng);
         let mut call = good_call(&mut rng, lengths, random_station);
         if !rng.once_in(3) {
             damage(&mut rng, &mut call);
         }
-        let verdict = if turn % 2 == 0 {
-            call.check()
-        } else {
-            call.check_in_edition(false)
+        let Call {
+            path,
+            itinerary,
+            earliest,
+            latest,
+        } = &call;
+        let in_edition = |is_second| {
+            archive::check_journey_in_edition(is_second, path, itinerary, *earliest, *latest)
         };
-        report.count(&verdict);
-        let asks_second = !has_p(&call.path);
-        report.in_second += u64::from(asks_second);
-        if !agrees(&mut rng, &call, verdict)
-            || asks_second && call.check_in_edition(true) != verdict
-        {
+        let verdict = if turn % 2 == 0 {
+            archive::check_journey(path, itinerary, *earliest, *latest)
+        } else {
+            in_edition(false)
+        };
+        *counts.entry(verdict).or_insert(0u64) += 1;
+        let asks_second = !has_p(path);
+        in_second += u64::from(asks_second);
+        if !agrees(&mut rng, &call, verdict) || asks_second && in_edition(true) != verdict {
             *different += 1;
             println!(
-                "DIFFERENT JOURNEY: {verdict:?} {:?} {:?} {} {}",
+                "DIFFERENT JOURNEY: {verdict} {:?} {:?} {} {}",
                 call.path, call.itinerary, call.earliest, call.latest
             );
         }
     }
-    report
-}
-
-impl Report {
-    fn count(&mut self, verdict: &ScionReply) {
-        *self.verdicts.entry(verdict.number).or_default() += 1;
-        if verdict.number == NOT_PASSED {
-            let [_, number, reading, _] = verdict.values;
-            let counts = &mut self.stops[(reading == SCION_READING_LATEST) as usize];
-            *counts.entry(number as u16).or_default() += 1;
-        }
-    }
-}
-
-impl fmt::Display for Report {
-    fn fmt(&self, f: &mut fmt::Formatter<'_>) -> fmt::Result {
-        let [earliest, latest] = [0, 1].map(|reading| by_number(&self.stops[reading]));
-        writeln!(f, "journeys: {}", by_number(&self.verdicts))?;
-        write!(
-            f,
-            "journeys stop by {earliest}, at the latest reading by {latest}"
-        )
-    }
-}
-
-fn by_number(counts: &BTreeMap<u16, u64>) -> String {
     let counts: Vec<String> = counts
         .iter()
-        .map(|(number, count)| format!("{number}: {count}"))
+        .map(|(verdict, count)| format!("{verdict}: {count}"))
         .collect();
-    counts.join(", ")
-}
-
-impl Call {
-    fn check(&self) -> ScionReply {
-        archive::check_journey(&self.path, &self.itinerary, self.earliest, self.latest)
-    }
-
-    fn check_in_edition(&self, is_second: bool) -> ScionReply {
-        let (path, itinerary) = (&self.path, &self.itinerary);
-        archive::check_journey_in_edition(is_second, path, itinerary, self.earliest, self.latest)
+    Report {
+        verdicts: counts.join(", "),
+        in_second,
     }
 }
 
-fn agrees(rng: &mut Rng, call: &Call, verdict: ScionReply) -> bool {
-    if verdict.number != PASSED && verdict.number != NOT_PASSED {
-        return (verdict.count, verdict.values) == (0, [0; 4]);
+fn agrees(rng: &mut Rng, call: &Call, verdict: u16) -> bool {
+    if verdict != PASSED && verdict != NOT_PASSED {
+        return true;
     }
     let stations = stations(&call.itinerary);
-    let all_at = |reading| stop(&call.path, &stations, &vec![reading; stations.len()]);
-    let runs = [
-        (SCION_READING_EARLIEST, call.earliest),
-        (SCION_READING_LATEST, call.latest),
-    ];
-    let stopped = runs
-        .into_iter()
-        .find_map(|(which, reading)| all_at(reading).map(|stop| (stop, which)));
-    // The station, the number of its step and the reading, or nothing where both runs arrive.
-    let expected = match stopped {
-        None => (PASSED, 0, [0; 4]),
-        Some(((station, number), which)) => {
-            (NOT_PASSED, 3, [station as u64, number.into(), which, 0])
-        }
-    };
-    let any = arrives_at_any(rng, call, &stations);
-    (verdict.number, verdict.count, verdict.values) == expected && (verdict.number != PASSED || any)
-}
-
-/// With three random lists of readings, whether or not it passed: a seed gives the same journeys as ever.
-fn arrives_at_any(rng: &mut Rng, call: &Call, stations: &[Station]) -> bool {
+    let constant = |reading| arrives(&call.path, &stations, &vec![reading; stations.len()]);
+    let both = constant(call.earliest) && constant(call.latest);
     let span = (call.latest - call.earliest) as usize + 1;
-    (0..3).all(|_| {
+    let any = (0..3).all(|_| {
         let readings: Vec<u32> = stations
             .iter()
             .map(|_| call.earliest + rng.below(span) as u32)
             .collect();
-        arrives(&call.path, stations, &readings)
-    })
+        arrives(&call.path, &stations, &readings)
+    });
+    (verdict == PASSED) == both && (verdict != PASSED || any)
 }
 
+/// The journey as 01 writes it out.
 pub fn arrives(path: &[u8], stations: &[Station], readings: &[u32]) -> bool {
-    !stations.is_empty() && stop(path, stations, readings).is_none()
-}
-
-/// The journey as 01 writes it out: the station where it stops, counted from 0, with the number of its step.
-fn stop(path: &[u8], stations: &[Station], readings: &[u32]) -> Option<(usize, u16)> {
     let mut path = path.to_vec();
     for (place, (station, reading)) in stations.iter().zip(readings).enumerate() {
         let Station {
@@ -166,16 +109,14 @@ fn stop(path: &[u8], stations: &[Station], readings: &[u32]) -> Option<(usize, u
         } = station;
         let answer =
             oracle::handle_standard_path(&mut path, ids, states, *arrival, *reading, key, false);
-        let goes_on = if place + 1 == stations.len() {
-            number::FORWARD_LOCAL
-        } else {
-            number::FORWARD_NEXT_HOP
-        };
-        if answer.number != goes_on {
-            return Some((place, answer.number));
+        if place + 1 == stations.len() {
+            return answer.number == number::FORWARD_LOCAL;
+        }
+        if answer.number != number::FORWARD_NEXT_HOP {
+            return false;
         }
     }
-    None
+    false
 }
 
 /// The stations of a sound itinerary.
@@ -222,7 +163,8 @@ pub fn passed_call(rng: &mut Rng, lengths: [usize; 3]) -> Call {
         ..random_station(rng, place)
     };
     let call = good_call(rng, lengths, station);
-    assert_eq!(call.check().number, PASSED);
+    let verdict = archive::check_journey(&call.path, &call.itinerary, call.earliest, call.latest);
+    assert_eq!(verdict, PASSED);
     call
 }
 

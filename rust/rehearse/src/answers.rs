@@ -329,19 +329,7 @@ pub fn of_header(path: &[u8], edition: Edition) -> Option<Answer> {
 pub fn of_journey(answer: Result<Verdict, JourneyError>) -> Answer {
     match answer {
         Ok(verdict @ Verdict::Passed) => Answer::good("passed", verdict.number(), verdict),
-        Ok(
-            verdict @ Verdict::NotPassed {
-                station,
-                number,
-                reading,
-                ..
-            },
-        ) => {
-            let answer = Answer::new(false, "not_passed", verdict.number(), verdict);
-            let mut answer = answer.with("station", station).with("number", number);
-            answer.values.push(("reading", Json::text(reading.to_string())));
-            answer
-        }
+        Ok(verdict @ Verdict::NotPassed { .. }) => Answer::new(false, "not_passed", verdict.number(), verdict),
         Err(error) => Answer::refused(error.number(), error),
     }
 }

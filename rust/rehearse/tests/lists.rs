@@ -125,61 +125,6 @@ fn a_line_says_what_to_look_at() {
     );
 }
 
-/// A list with paths that stop by 12 at station 2, by 11 at station 2, by 17 at station 1, by 12 again, and by 10 at
-/// station 0, and one that passes.
-fn stopping() -> Folder {
-    let folder = Folder::with_site();
-    let good = folder.text("good.txt");
-    let mac = "out 22 lasts 6h mac 0123456789ab";
-    for (name, text) in [
-        ("mac", good.replace("out 22 lasts 6h", mac)),
-        ("down", good.replace("hop in 0 out 12", "hop in 0 out 13")),
-        ("soon", good.replace("06:00:00Z", "07:00:00Z")),
-    ] {
-        folder.write("text", text);
-        folder.run(&format!("sign text --plan site.plan -o {name}"));
-    }
-    let names = ["mac", "late.path", "down", "mac", "soon", "good.path"];
-    folder.write("list", names.map(|name| format!("{name} site.plan\n")).concat());
-    folder
-}
-
-#[test]
-fn a_line_says_where_the_path_stops() {
-    let ran = stopping().run(&format!("journey --batch list {READINGS}"));
-    let lines: Vec<&str> = ran.out.lines().collect();
-    for (line, name, why) in [
-        (0, "mac", "station 2, number 12 at the earliest reading: hop 3: "),
-        (1, "late.path", "station 2, number 11 at the latest reading: hop 3: "),
-        (2, "down", "station 1, number 17 at the earliest reading: hop 2: "),
-        (4, "soon", "station 0, number 10 at the earliest reading: hop 0: "),
-    ] {
-        let start = format!("not passed  {name} site.plan: {why}");
-        assert!(lines[line].starts_with(&start), "{}", ran.out);
-    }
-}
-
-/// Those that are not passed are counted by the number that stops them, as those that are refused.
-#[test]
-fn the_summary_counts_by_number() {
-    let folder = stopping();
-    let ran = folder.run(&format!("journey --batch list {READINGS}"));
-    assert_eq!(
-        ran.out.lines().last(),
-        Some("6 journeys: 1 passed, 5 not passed (1 by 10, 1 by 11, 2 by 12, 1 by 17), 0 refused, 0 not read")
-    );
-    let ran = folder.run(&format!("journey --batch list {READINGS} --json"));
-    let summary = parse(ran.out.lines().last().unwrap());
-    let Some(Value::List(by)) = summary.get("not_passed_by") else {
-        panic!("{summary:?}")
-    };
-    let by = by.iter().map(|entry| (entry.number("number"), entry.number("count")));
-    let counts = [(10, 1), (11, 1), (12, 2), (17, 1)].map(|(number, count)| (Some(number), Some(count)));
-    assert_eq!(by.collect::<Vec<_>>(), counts);
-    assert_eq!(summary.number("not_passed"), Some(5));
-    assert_eq!(summary.get("refused_by"), Some(&Value::List(vec![])));
-}
-
 /// Long lists of sentences are cut, and a plan of 64 stations, which a peering path can have, is listed whole.
 #[test]
 fn what_is_seen_is_cut_where_nobody_reads_on() {

@@ -8,8 +8,8 @@ pub use numbers::*;
 
 use core::mem::{align_of, offset_of, size_of};
 
-/// The version of the calls, which is also in the name of [`scion_step_version_3`].
-pub const SCION_STEP_VERSION: u32 = 3;
+/// The version of the calls, which is also in the name of [`scion_step_version_2`].
+pub const SCION_STEP_VERSION: u32 = 2;
 
 // ---- answers
 
@@ -74,7 +74,7 @@ pub type ScionStepInEdition = unsafe extern "C" fn(
 ) -> ScionReply;
 
 /// The version's function by its address.
-static VERSION: unsafe extern "C" fn() -> u32 = archive::scion_step_version_3;
+static VERSION: unsafe extern "C" fn() -> u32 = archive::scion_step_version_2;
 
 /// Makes the program refer to the version's symbol, so that it does not link with an archive of another version. The read
 /// is volatile, because `#[used]` on the static would leave a linker free to drop it.
@@ -111,8 +111,8 @@ macro_rules! calls {
 }
 
 calls! {
-    /// The version of the archive, 3.
-    fn scion_step_version_3() -> u32;
+    /// The version of the archive, 2.
+    fn scion_step_version_2() -> u32;
 
     /// The whole step, on `path` in place.
     ///
@@ -170,10 +170,6 @@ calls! {
 
     /// Whether the path travels over the itinerary's stations whatever their clocks read from `earliest` to `latest`:
     /// [`SCION_PASSED`], [`SCION_NOT_PASSED`], or a refusal by 2, 3, 4, 23, 24 or 25.
-    ///
-    /// [`SCION_NOT_PASSED`] says where the journey stops: at which station, counted from 0, and by which number of the
-    /// whole step there, 5 to 7, 9 to 12 or 14 to 18. In that journey every clock reads `earliest`; if the path arrives
-    /// so, every clock reads `latest`. The third value says which. The other answers have no values.
     fn scion_check_journey(
         path: *const u8,
         path_length: usize,
@@ -229,8 +225,7 @@ calls! {
         ignore_macs: bool,
     ) -> ScionReply;
 
-    /// The journey check in an edition. In the second a peering path has a station for each of its hops, and the number
-    /// where a journey stops may be 28, too.
+    /// The journey check in an edition. In the second a peering path has a station for each of its hops.
     fn scion_check_journey_in_edition(
         is_second: bool,
         path: *const u8,

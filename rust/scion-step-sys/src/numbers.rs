@@ -1,4 +1,4 @@
-//! The numbers of answers, and of the readings in one of them. Those below 100 refuse. More will be added.
+//! The numbers of answers. Those below 100 refuse. More will be added.
 
 /// The lists of interfaces are no table: unlike lengths, more than 256 entries, not ascending, or a state above 7.
 pub const SCION_UNSOUND_TABLE: u16 = 1;
@@ -71,12 +71,5 @@ pub const SCION_EXPIRATION: u16 = 111;
 pub const SCION_SEGMENT_INDEX: u16 = 112;
 /// The path travels over the itinerary's stations, whatever their clocks read.
 pub const SCION_PASSED: u16 = 120;
-/// For some clock readings it does not. Values: the station where the journey stops, the number that its step answers, one
-/// of the readings below.
+/// For some clock readings it does not.
 pub const SCION_NOT_PASSED: u16 = 121;
-
-/// The third value of [`SCION_NOT_PASSED`]: every clock is at the earliest reading.
-pub const SCION_READING_EARLIEST: u64 = 0;
-/// The third value of [`SCION_NOT_PASSED`]: every clock is at the latest reading. With every clock at the earliest the path
-/// arrives.
-pub const SCION_READING_LATEST: u64 = 1;

@@ -77,30 +77,17 @@ fn the_calls_are_declared_once() {
     assert_eq!(declaring, [&root.join("rust/scion-step-sys/src/lib.rs")]);
 }
 
-/// The constants of the header's enum that one of them stands in.
-fn in_header<'a>(header: &'a str, one: &str) -> BTreeMap<&'a str, &'a str> {
-    let mut enums = header.split("enum").map(|text| text.split('}').next().unwrap());
-    let found = enums.find(|text| text.contains(one)).unwrap();
-    let entries = found.trim_start_matches([' ', '{']).split(',');
-    entries.filter_map(|entry| entry.trim().split_once(" = ")).collect()
-}
-
-/// The constants of the crate that have a type.
-fn in_crate(kind: &str) -> BTreeMap<&'static str, &'static str> {
-    let constants = NUMBERS.lines().filter_map(|line| line.strip_prefix("pub const "));
-    let between = format!(": {kind} = ");
-    constants
-        .filter_map(|line| line.trim_end_matches(';').split_once(&between))
-        .collect()
-}
-
 #[test]
 fn header_and_crate_have_the_same_numbers() {
     let header = header();
-    assert_eq!(in_header(&header, "SCION_FORWARD_LOCAL"), in_crate("u16"));
-    // Those of values are as wide as a value.
-    assert_eq!(in_header(&header, "SCION_READING_LATEST"), in_crate("u64"));
-    assert_eq!(in_crate("u64").len(), 2);
+    let mut enums = header.split("enum").map(|text| text.split('}').next().unwrap());
+    let answers = enums.find(|text| text.contains("SCION_FORWARD_LOCAL")).unwrap();
+    let entries = answers.trim_start_matches([' ', '{']).split(',');
+    let in_header: BTreeMap<&str, &str> = entries.filter_map(|entry| entry.trim().split_once(" = ")).collect();
+
+    let constants = NUMBERS.lines().filter_map(|line| line.strip_prefix("pub const "));
+    let pairs = constants.filter_map(|line| line.trim_end_matches(';').split_once(": u16 = "));
+    assert_eq!(in_header, pairs.collect());
 }
 
 #[test]
@@ -108,5 +95,5 @@ fn there_is_one_version() {
     let version = scion_step_sys::SCION_STEP_VERSION;
     assert!(HEADER.contains(&format!("#define SCION_STEP_VERSION {version}\n")));
     // SAFETY: no pointer is passed.
-    assert_eq!(unsafe { scion_step_sys::scion_step_version_3() }, version);
+    assert_eq!(unsafe { scion_step_sys::scion_step_version_2() }, version);
 }

@@ -615,41 +615,14 @@ impl fmt::Display for SegmentIndex {
 
 // ---- the journey check
 
-/// What every clock reads in a journey: one of the two readings that the journey check is given.
-#[derive(Debug, Clone, Copy, PartialEq, Eq, Hash)]
-pub enum Reading {
-    /// The earliest.
-    Earliest,
-    /// The latest.
-    Latest,
-}
-
-impl fmt::Display for Reading {
-    fn fmt(&self, f: &mut fmt::Formatter<'_>) -> fmt::Result {
-        f.write_str(match self {
-            Reading::Earliest => "earliest",
-            Reading::Latest => "latest",
-        })
-    }
-}
-
 /// What the journey check says of a path.
 #[derive(Debug, Clone, Copy, PartialEq, Eq, Hash)]
 pub enum Verdict {
     /// The path travels, whatever the stations' clocks read between the two readings.
     Passed,
-    /// For some readings it does not. It stops with every clock at the earliest reading or, where it arrives so, with every
-    /// clock at the latest. More fields may come, so it is matched with `..`.
+    /// For some readings it does not. Fields will come, so it is matched as `NotPassed { .. }`.
     #[non_exhaustive]
-    NotPassed {
-        /// The station where the journey stops, counted from 0.
-        station: usize,
-        /// The number that the whole step answers there: one of 5 to 7, 9 to 12 and 14 to 18, in
-        /// [`Edition::Second`](crate::Edition::Second) also 28.
-        number: u16,
-        /// What every clock reads in that journey.
-        reading: Reading,
-    },
+    NotPassed,
 }
 
 impl Verdict {
@@ -657,32 +630,24 @@ impl Verdict {
     pub fn number(&self) -> u16 {
         match self {
             Verdict::Passed => 120,
-            Verdict::NotPassed { .. } => 121,
+            Verdict::NotPassed => 121,
         }
     }
 }
 
 impl fmt::Display for Verdict {
     fn fmt(&self, f: &mut fmt::Formatter<'_>) -> fmt::Result {
-        match self {
-            Verdict::Passed => write!(f, "the path travels over the itinerary's stations"),
-            Verdict::NotPassed {
-                station,
-                number,
-                reading,
-            } => write!(
-                f,
-                "the path does not travel: station {station} answers {number} with every clock at the {reading} reading"
-            ),
-        }
+        f.write_str(match self {
+            Verdict::Passed => "the path travels over the itinerary's stations",
+            Verdict::NotPassed => "the path does not travel over the itinerary's stations for all clock readings",
+        })
     }
 }
 
-/// No other crate makes a `NotPassed`, as it would without fields that may come.
+/// No other crate makes a `NotPassed`, as it would without the fields that will come.
 ///
-/// ```compile_fail,E0639
-/// use standard_path::{Reading, Verdict};
-/// let verdict = Verdict::NotPassed { station: 0, number: 11, reading: Reading::Latest };
+/// ```compile_fail
+/// let verdict = standard_path::Verdict::NotPassed;
 /// ```
 #[cfg(doctest)]
 pub struct MadeElsewhere;

@@ -17,7 +17,7 @@ mod table;
 
 pub use answer::{
     AdvanceError, AsRoutingAction, HeaderError, IngressNextAction, JourneyError, LocalAsRoutingAction,
-    PathReverseError, Reading, Refusal, ScmpError, SegmentIndex, StandardRoutingError, Verdict,
+    PathReverseError, Refusal, ScmpError, SegmentIndex, StandardRoutingError, Verdict,
 };
 pub use edition::Edition;
 pub use table::{AsRoutingInterfaceState, AsRoutingLinkType, InterfaceTable, Interfaces, UnsoundTable};
@@ -126,9 +126,6 @@ pub fn calculate_segment_index(path: &[u8], hop_idx: u8) -> Result<SegmentIndex,
 ///   numbers ascend; stations may share records.
 ///
 /// There is a station for each AS of the path: one for each hop, but one for the two hops of a segment change.
-///
-/// Where a path is not passed, the verdict has the station that stops it, the number that the whole step answers there, and
-/// which of the two readings every clock is at.
 pub fn check_journey(
     path: &[u8],
     itinerary: &[u8],

@@ -3,7 +3,7 @@
 
 use crate::{
     AdvanceError, AsRoutingAction, HeaderError, IngressNextAction, JourneyError, LocalAsRoutingAction,
-    PathReverseError, Reading, Refusal, ScmpError, SegmentIndex, StandardRoutingError, Verdict, REFUSALS,
+    PathReverseError, Refusal, ScmpError, SegmentIndex, StandardRoutingError, Verdict,
 };
 use scion_step_sys::{ScionReply as Reply, *};
 
@@ -195,28 +195,10 @@ pub(crate) fn segment_index(reply: Reply) -> Result<SegmentIndex, HeaderError> {
     }
 }
 
-/// Where a journey stops. A pair that is only half there would send somebody to the wrong station, so all of it is asked.
-fn not_passed(reply: Reply) -> Verdict {
-    let (station, number) = (reply.value(0), reply.value(1));
-    let reading = match reply.values[2] {
-        SCION_READING_EARLIEST => Reading::Earliest,
-        SCION_READING_LATEST => Reading::Latest,
-        _ => ruled_out(reply),
-    };
-    if reply.count != 3 || !REFUSALS.contains(&number) {
-        ruled_out(reply);
-    }
-    Verdict::NotPassed {
-        station,
-        number,
-        reading,
-    }
-}
-
 pub(crate) fn journey(reply: Reply) -> Result<Verdict, JourneyError> {
     match reply.number {
         SCION_PASSED => Ok(Verdict::Passed),
-        SCION_NOT_PASSED => Ok(not_passed(reply)),
+        SCION_NOT_PASSED => Ok(Verdict::NotPassed),
         SCION_META_TOO_SHORT => Err(JourneyError::MetaTooShort),
         SCION_DATA_TOO_SHORT => Err(JourneyError::DataTooShort),
         SCION_TOO_MANY_HOPS => Err(JourneyError::TooManyHops),
@@ -230,20 +212,7 @@ pub(crate) fn journey(reply: Reply) -> Result<Verdict, JourneyError> {
 #[cfg(test)]
 mod tests {
     use super::*;
-    use std::panic::{self, UnwindSafe};
-    use std::sync::Mutex;
-
-    /// What a call gives, or none where it panics, without a message. The hook that writes messages is the program's, so
-    /// one test at a time takes it away.
-    fn quietly<T>(call: impl FnOnce() -> T + UnwindSafe) -> Option<T> {
-        static HOOK: Mutex<()> = Mutex::new(());
-        let _alone = HOOK.lock();
-        let hook = panic::take_hook();
-        panic::set_hook(Box::new(|_| {}));
-        let given = panic::catch_unwind(call).ok();
-        panic::set_hook(hook);
-        given
-    }
+    use std::panic;
 
     fn reply(number: u16) -> Reply {
         Reply {
@@ -253,14 +222,6 @@ mod tests {
             scmp_type: 0,
             scmp_code: 0,
             scmp_pointer: 0,
-        }
-    }
-
-    fn stopped(values: [u64; 4]) -> Reply {
-        Reply {
-            count: 3,
-            values,
-            ..reply(SCION_NOT_PASSED)
         }
     }
 
@@ -285,8 +246,9 @@ mod tests {
         for number in [2, 3, 4, 23, 24, 25] {
             assert_eq!(journey(reply(number)).unwrap_err().number(), number);
         }
-        assert_eq!(journey(reply(120)).unwrap().number(), 120);
-        assert_eq!(journey(stopped([2, 11, 1, 0])).unwrap().number(), 121);
+        for number in [120, 121] {
+            assert_eq!(journey(reply(number)).unwrap().number(), number);
+        }
         for number in [5, 112] {
             assert_eq!(segment_index(reply(number)).unwrap().number(), number);
         }
@@ -301,43 +263,14 @@ mod tests {
             |reply| journey(reply).is_err(),
             |reply| !matches!(segment_index(reply), Ok(SegmentIndex::At { .. })),
         ];
-        // A panic says that a number is not taken.
-        let refuses = |call: fn(Reply) -> bool, number| quietly(|| call(reply(number))) == Some(true);
-        let is_refusal = |&number: &u16| calls.iter().any(|&call| refuses(call, number));
+        let refuses = |call: &fn(Reply) -> bool, number| panic::catch_unwind(|| call(reply(number))).unwrap_or(false);
+        // A panic says that a number is not taken, without a message.
+        let hook = panic::take_hook();
+        panic::set_hook(Box::new(|_| {}));
+        let is_refusal = |&number: &u16| calls.iter().any(|call| refuses(call, number));
         let refusals: Vec<u16> = (0..100).filter(is_refusal).collect();
+        panic::set_hook(hook);
         assert_eq!(refusals, crate::REFUSALS);
-    }
-
-    #[test]
-    fn where_a_journey_stops_is_kept() {
-        for (third, reading) in [(0, Reading::Earliest), (1, Reading::Latest)] {
-            for number in [5, 6, 7, 9, 10, 11, 12, 14, 15, 16, 17, 18, 28] {
-                let verdict = Verdict::NotPassed {
-                    station: 63,
-                    number,
-                    reading,
-                };
-                assert_eq!(journey(stopped([63, number.into(), third, 0])), Ok(verdict));
-            }
-        }
-    }
-
-    #[test]
-    fn half_a_pair_is_not_taken() {
-        let good = stopped([2, 11, 1, 0]);
-        let with = |at: usize, value| {
-            let mut values = good.values;
-            values[at] = value;
-            stopped(values)
-        };
-        let counted = |count| Reply { count, ..good };
-        // No number, one that stops no packet, one that is cut, a reading that is none, another count.
-        let numbers = [with(1, 0), with(1, 102), with(1, 65536 + 11)];
-        let others = [with(2, 2), counted(0), counted(2), counted(4)];
-        for wrong in numbers.into_iter().chain(others) {
-            assert_eq!(quietly(|| journey(wrong)), None);
-        }
-        assert!(journey(good).is_ok());
     }
 
     #[test]

@@ -7,7 +7,7 @@ mod cases;
 use cases::Case;
 use standard_path::{
     expiration, try_reverse, AdvanceError, AsRoutingAction, Edition, IngressNextAction, Interfaces,
-    LocalAsRoutingAction, Reading, Refusal, ScionNetworkTime, ScmpError, StandardRoutingError, Verdict,
+    LocalAsRoutingAction, Refusal, ScionNetworkTime, ScmpError, StandardRoutingError,
 };
 
 fn action_text(action: AsRoutingAction) -> String {
@@ -138,29 +138,11 @@ fn step_text(case: &Case, path: &mut [u8]) -> String {
     .unwrap_or_else(refusal_text)
 }
 
-fn verdict_text(verdict: Verdict) -> String {
-    match verdict {
-        Verdict::NotPassed {
-            station,
-            number,
-            reading,
-            ..
-        } => {
-            let reading = match reading {
-                Reading::Earliest => 0,
-                Reading::Latest => 1,
-            };
-            format!("{} {station} {number} {reading}", verdict.number())
-        }
-        Verdict::Passed => verdict.number().to_string(),
-    }
-}
-
-fn journey_text(case: &Case) -> String {
+fn journey_number(case: &Case) -> u16 {
     let [earliest, latest] = [case.first, case.second].map(ScionNetworkTime::from_timestamp_secs);
     match edition(case).check_journey(&case.path, &case.itinerary, earliest, latest) {
-        Ok(verdict) => verdict_text(verdict),
-        Err(error) => error.number().to_string(),
+        Ok(verdict) => verdict.number(),
+        Err(error) => error.number(),
     }
 }
 
@@ -174,7 +156,7 @@ fn answer(case: &Case, path: &mut [u8]) -> String {
             Ok(time) => format!("111 {time}"),
             Err(error) => error.number().to_string(),
         },
-        "journey" => journey_text(case),
+        "journey" => journey_number(case).to_string(),
         _ => step_text(case, path),
     }
 }

@@ -1,7 +1,7 @@
 //! Enums that will grow leave room for what is not known yet: else the last arms here could not be reached.
 #![deny(unreachable_patterns)]
 
-use standard_path::{AdvanceError, JourneyError, StandardRoutingError, Verdict};
+use standard_path::{AdvanceError, JourneyError, StandardRoutingError};
 
 fn advance(error: AdvanceError) -> &'static str {
     use AdvanceError::*;
@@ -46,18 +46,9 @@ fn journey(error: JourneyError) -> &'static str {
     }
 }
 
-/// Who knew no field of `NotPassed` goes on as before.
-fn verdict(verdict: Verdict) -> &'static str {
-    match verdict {
-        Verdict::Passed => "passed",
-        Verdict::NotPassed { .. } => "not passed",
-    }
-}
-
 #[test]
 fn what_is_there_is_known() {
     assert_eq!(refusal(StandardRoutingError::UnsoundTable), "known");
     assert_eq!(refusal(AdvanceError::SegmentEnd.into()), "known");
     assert_eq!(journey(JourneyError::AlertSet), "known");
-    assert_eq!(verdict(Verdict::Passed), "passed");
 }

@@ -10,7 +10,7 @@ use Rattle.answers.proofs.Asked.{goes_on_lem, stops}
 use Rattle.validator.specs.Check.{key_mac, mac_questions}
 use Rattle.validator.proofs.Schedule.{mac_asked}
 use Rattle.place.specs.Place.{hop, info}
-use Rattle.beta_steps.specs.BetaSteps.{ingress_seg_id}
+use Rattle.moves.specs.Moves.{ingress_seg_id}
 use Rattle.checks.proofs.validate_checked.Statement.{statement}
 use Rattle.checks.proofs.validate_checked.Tie as tie
 

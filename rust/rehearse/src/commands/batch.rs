@@ -4,7 +4,6 @@ use super::journey::{between, check, Between, Checking};
 use super::names;
 use crate::answers::Answer;
 use crate::arguments::Arguments;
-use crate::drive::Place;
 use crate::edition;
 use crate::files::{shown, without_mark, Files};
 use crate::json::Json;
@@ -29,41 +28,9 @@ struct Entry<'a> {
 #[derive(Default)]
 struct Summary {
     passed: u64,
-    /// By the number of the step that stops the path.
-    not_passed: Counts,
-    refused: Counts,
+    not_passed: u64,
+    refused: BTreeMap<u16, u64>,
     not_read: u64,
-}
-
-/// How many journeys have a number.
-#[derive(Default)]
-struct Counts(BTreeMap<u16, u64>);
-
-impl Counts {
-    fn add(&mut self, number: u16) {
-        *self.0.entry(number).or_default() += 1;
-    }
-
-    fn total(&self) -> u64 {
-        self.0.values().sum()
-    }
-
-    /// The numbers in brackets, if there are some.
-    fn text(&self) -> String {
-        let numbers = self.0.iter().map(|(number, count)| format!("{count} by {number}"));
-        let numbers: Vec<String> = numbers.collect();
-        match numbers.len() {
-            0 => String::new(),
-            _ => format!(" ({})", numbers.join(", ")),
-        }
-    }
-
-    fn json(&self) -> Json {
-        let by_number = self.0.iter().map(|(&number, &count)| {
-            Json::Object(vec![("number", Json::number(number)), ("count", Json::Number(count))])
-        });
-        Json::List(by_number.collect())
-    }
 }
 
 pub fn run(arguments: &Arguments, files: &Files) -> Checked<Report> {
@@ -173,12 +140,7 @@ fn one(
         check(files, path, plan, between)
     });
     let (label, why, mut json) = match checking {
-        Ok(Checking {
-            answer,
-            report,
-            stops,
-            why,
-        }) => (summary.count(&answer, stops), why, report.json),
+        Ok(Checking { answer, report, why }) => (summary.count(&answer), why, report.json),
         Err(Mistake(why)) => {
             summary.not_read += 1;
             let sentence = shown.map_or_else(|| format!("{place}: {why}"), |_| why.clone());
@@ -200,12 +162,12 @@ fn one(
 
 impl Summary {
     /// Counts an answer, and gives its word for a line.
-    fn count(&mut self, answer: &Answer, stops: Option<Place>) -> String {
-        match (answer.word, stops) {
-            ("passed", _) => self.passed += 1,
-            (_, Some(place)) => self.not_passed.add(place.number),
-            (word, None) => {
-                self.refused.add(answer.number);
+    fn count(&mut self, answer: &Answer) -> String {
+        match answer.word {
+            "passed" => self.passed += 1,
+            "not_passed" => self.not_passed += 1,
+            word => {
+                *self.refused.entry(answer.number).or_default() += 1;
                 return format!("{word} {}", answer.number);
             }
         }
@@ -213,24 +175,35 @@ impl Summary {
     }
 
     fn report(&self, journeys: usize) -> Report {
-        let (not_passed, refused) = (self.not_passed.total(), self.refused.total());
+        let refused: u64 = self.refused.values().sum();
+        let numbers: Vec<String> = self
+            .refused
+            .iter()
+            .map(|(number, count)| format!("{count} by {number}"))
+            .collect();
+        let by = if refused == 0 {
+            String::new()
+        } else {
+            format!(" ({})", numbers.join(", "))
+        };
         let text = format!(
-            "{}: {} passed, {not_passed} not passed{}, {refused} refused{}, {} not read\n",
+            "{}: {} passed, {} not passed, {refused} refused{by}, {} not read\n",
             counted(journeys, "journey"),
             self.passed,
-            self.not_passed.text(),
-            self.refused.text(),
+            self.not_passed,
             self.not_read
         );
         let mut report = Report::done("journey", "summary", text);
+        let by_number = self.refused.iter().map(|(&number, &count)| {
+            Json::Object(vec![("number", Json::number(number)), ("count", Json::Number(count))])
+        });
         report.member("journeys", Json::number(journeys));
         report.member("passed", Json::Number(self.passed));
-        report.member("not_passed", Json::Number(not_passed));
-        report.member("not_passed_by", self.not_passed.json());
+        report.member("not_passed", Json::Number(self.not_passed));
         report.member("refused", Json::Number(refused));
-        report.member("refused_by", self.refused.json());
+        report.member("refused_by", Json::List(by_number.collect()));
         report.member("not_read", Json::Number(self.not_read));
-        report.status = match (self.not_read, not_passed + refused) {
+        report.status = match (self.not_read, self.not_passed + refused) {
             (0, 0) => 0,
             (0, _) => 1,
             _ => 2,

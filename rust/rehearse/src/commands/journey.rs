@@ -4,7 +4,7 @@ use super::{batch, reading, spelling, PATH};
 use crate::answers::{self, Answer};
 use crate::arguments::{Arguments, Form};
 use crate::dates;
-use crate::drive::{Journey, Place};
+use crate::drive;
 use crate::edition;
 use crate::files::{Files, Spelling};
 use crate::header::Header;
@@ -15,7 +15,7 @@ use crate::not_asked;
 use crate::plan;
 use crate::report::{counted, Report};
 use crate::seen;
-use standard_path::{Edition, Reading, ScionNetworkTime};
+use standard_path::{Edition, ScionNetworkTime, Verdict};
 use std::ffi::OsStr;
 
 pub const FORM: Form = Form {
@@ -67,8 +67,6 @@ pub fn between(arguments: &Arguments) -> Checked<Between> {
 pub struct Checking {
     pub answer: Answer,
     pub report: Report,
-    /// Where a path that is not passed stops.
-    pub stops: Option<Place>,
     /// The first thing to look at, in a sentence.
     pub why: Option<String>,
 }
@@ -86,43 +84,24 @@ pub fn check(files: &Files, path: &OsStr, plan: &OsStr, between: &Between) -> Ch
     let read = itinerary::read(&plan);
     asked(&path, &read, readings, &mut report);
     edition::tell(edition, &mut report);
-    let stops = verdict.ok().and_then(Place::of);
-    let why = match (verdict, stops) {
-        (Ok(_), None) => beside_pass(edition, &path, &read, &mut report),
-        (Ok(_), Some(place)) => {
-            let journey = Journey {
-                edition,
-                path: &path,
-                stations: &read.stations,
-                earliest: between.earliest,
-                latest: between.latest,
+    let why = match verdict {
+        Ok(Verdict::Passed) => {
+            let seen = not_asked::beside_pass(edition, Header(&path), &read.stations);
+            let more = match seen.len() {
+                0 | 1 => String::new(),
+                count => format!(" (and {} more)", count - 1),
             };
-            Some(where_it_stops(&journey, place, &mut report)?)
+            let first = report.list("not asked", "not_asked", seen);
+            first.map(|first| format!("not asked: {first}{more}"))
         }
-        (Err(error), _) => {
+        Ok(Verdict::NotPassed { .. }) => where_it_stops((edition, &path), &read.stations, readings, &mut report),
+        Err(error) => {
             let seen = seen::beside((error, edition), &path, (&plan, &read), readings);
             report.list("seen", "seen", seen).or(Some(answer.sentence.clone()))
         }
     };
-    // The values of one that is not passed stand in its sentence.
-    report.lines(&answer.about());
-    Ok(Checking {
-        answer,
-        report,
-        stops,
-        why,
-    })
-}
-
-/// What no question asks for: the first of it, and how much more there is.
-fn beside_pass(edition: Edition, path: &[u8], read: &Read, report: &mut Report) -> Option<String> {
-    let seen = not_asked::beside_pass(edition, Header(path), &read.stations);
-    let more = match seen.len() {
-        0 | 1 => String::new(),
-        count => format!(" (and {} more)", count - 1),
-    };
-    let first = report.list("not asked", "not_asked", seen);
-    first.map(|first| format!("not asked: {first}{more}"))
+    report.lines(&answer.details());
+    Ok(Checking { answer, report, why })
 }
 
 /// What the library was asked about.
@@ -146,31 +125,39 @@ fn asked(path: &[u8], read: &Read, [earliest, latest]: [u32; 2], report: &mut Re
     report.member("latest", Json::number(latest));
 }
 
-/// Which station stops the path, at which reading, as the library says, and what its step answers. Gives that in a sentence.
-fn where_it_stops(journey: &Journey<'_>, place: Place, report: &mut Report) -> Checked<String> {
-    let answer = journey.answer_at(place)?;
-    let Place {
-        station,
-        number,
-        reading,
-    } = place;
-    if reading == Reading::Latest {
-        let earliest = dates::both(journey.earliest);
-        report.line("arrives", format!("with every clock at {earliest}"));
+/// Drives the path with every clock at the earliest reading, then at the latest, until a station holds it. Gives that in a
+/// sentence.
+fn where_it_stops(
+    (edition, path): (Edition, &[u8]),
+    stations: &[plan::Station],
+    readings: [u32; 2],
+    report: &mut Report,
+) -> Option<String> {
+    for reading in readings {
+        let Some(drive::Stop { station, answer }) = drive::stop(edition, path, stations, reading) else {
+            report.line("arrives", format!("with every clock at {}", dates::both(reading)));
+            continue;
+        };
+        report.line(
+            "stops",
+            format!(
+                "at station {station} (arrival {}), with every clock at {}",
+                stations[station].arrival,
+                dates::both(reading)
+            ),
+        );
+        report.line("", answer.headline());
+        report.lines(&answer.about());
+        report.member(
+            "stops",
+            stop_json((station, stations[station].arrival), reading, &answer),
+        );
+        return Some(format!(
+            "station {station}, number {}: {}",
+            answer.number, answer.sentence
+        ));
     }
-    let (arrival, seconds) = (journey.stations[station].arrival, journey.seconds(reading));
-    let clocks = dates::both(seconds);
-    report.line(
-        "stops",
-        format!("at station {station} (arrival {arrival}), with every clock at {clocks}"),
-    );
-    report.line("", answer.headline());
-    report.lines(&answer.about());
-    report.member("stops", stop_json((station, arrival), seconds, &answer));
-    Ok(format!(
-        "station {station}, number {number} at the {reading} reading: {}",
-        answer.sentence
-    ))
+    None
 }
 
 fn stop_json((station, arrival): (usize, u16), reading: u32, answer: &Answer) -> Json {

@@ -58,7 +58,6 @@ fn further(command: &str) -> &'static [&'static str] {
             "journeys",
             "passed",
             "not_passed",
-            "not_passed_by",
             "refused",
             "refused_by",
             "not_read",

@@ -1,7 +1,7 @@
 use borrow.Author.Rules.{rules}
 use Rattle.edition.specs.declared.Edition.TheVariants.{First}
 use Rattle.records.specs.Layout.{narrow}
-use Rattle.exports.proofs.Passed.{promised}
+use Rattle.exports.proofs.Passed.{says_what_travels}
 use Rattle.exports.proofs.calls.scion_check_journey.Statement.{statement}
 use Rattle.exports.proofs.calls.scion_check_journey.Tie as tie
 
@@ -9,8 +9,8 @@ returns : tie.Need-returns
 returns c =
     let args = c.before.before.before.before.args in
     let check-journey = c.before.check-journey in
-    promised First narrow args.itinerary.now args.earliest args.latest args.path.now
-    check-journey.ensures c.journey-reply.ensures
+    says_what_travels First narrow args.itinerary.now args.earliest args.latest args.path.now
+    check-journey.ensures.0 check-journey.ensures.1 c.journey-reply.ensures
 
 pub scion-check-journey-spec : {M : Type 1} → statement M
 scion-check-journey-spec =

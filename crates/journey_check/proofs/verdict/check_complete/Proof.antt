@@ -1,18 +1,16 @@
 use borrow.Author.Rules.{rules}
 use mathlib.Core.Path.{◌≡◌, refl, sym, ◌∙◌}
-use mathlib.Core.Bool.{true}
 use lib.ListN.{drop}
 use Prim.Native.Nat.{ℕ}
 use borrow.Author.Tests.{not-true, not-false}
-use Rattle.octets.proofs.Bools.{both, first_of}
-use Rattle.questions.specs.Questions.{asks, all_yes}
+use Rattle.octets.proofs.Bools.{first_of}
+use Rattle.questions.specs.Questions.{asks}
 use Rattle.records.specs.Layout.{layout_of}
 use Rattle.journey_questions.specs.Questions.{questions}
 use Rattle.journey.specs.Check.{passes}
 use Rattle.journey_questions.specs.declared.answer.Verdict.{Verdict}
 use Rattle.journey_questions.specs.declared.answer.Verdict.TheVariants.{Refused}
 use Rattle.journey_check.proofs.Stations.{fits_counted}
-use Rattle.journey_check.proofs.Complete.{all_yes}
 use Rattle.journey_check.proofs.verdict.check_complete.Statement.{statement}
 use Rattle.journey_check.proofs.verdict.check_complete.Tie as tie
 
@@ -43,20 +41,6 @@ asked_25 c after =
     let quiet = c.before in
     asked_24 quiet.before after ∙ rw (sym quiet.is-quiet.ensures ∙ not-false quiet.is-quiet.result c.if3.false) refl
 
--- all were answered yes
-let_through : (c : tie.Else3)
-    → let args = (call c.before.before.before.before.before).args in
-    all_yes (drop 3 (questions args.edition (layout_of args.form) args.itinerary.now args.earliest args.latest args.path.now))
-    ≡ true
-unfolding all_yes
-let_through c =
-    let quiet = c.before.is-quiet in
-    let start = c.before.before.before.is-at-start in
-    let fits = c.before.before.before.before.before.itinerary-fits in
-    both (sym fits.ensures ∙ not-false fits.result c.before.before.before.before.if1.false)
-    (both (sym start.ensures ∙ not-false start.result c.before.before.if2.false)
-    (both (sym quiet.ensures ∙ not-false quiet.result c.if3.false) refl))
-
 -- ---- the returns
 
 returns : tie.Need-returns
@@ -85,16 +69,9 @@ returns-4 : tie.Need-returns-4
 unfolding asks
 returns-4 c = rw (asked_25 c.before.before _, ← c.before.passes.ensures, c.if4.true)
 
-stop-requires : tie.Need-stop-requires
-stop-requires c κs =
-    let start = c.before.before.before.before.before.before.before.before.before.before in
-    let args = start.args in
-    (start.requires, all_yes _ start.requires args.edition _ _ args.earliest args.latest (let_through c.before.before))
-
 returns-5 : tie.Need-returns-5
 unfolding asks
-returns-5 c =
-    rw (asked_25 c.before.before.before _, ← c.before.before.passes.ensures, c.before.if4.false, ← c.stop.ensures)
+returns-5 c = rw (asked_25 c.before.before _, ← c.before.passes.ensures, c.if4.false)
 
 pub check-complete-spec : {M : Type 1} → statement M
 check-complete-spec =
@@ -108,5 +85,4 @@ check-complete-spec =
     returns-3
     passes-requires
     returns-4
-    stop-requires
     returns-5)

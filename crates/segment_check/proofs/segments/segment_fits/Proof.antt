@@ -5,7 +5,7 @@ use native.Mathlib.Omega.{arith}
 use Rattle.fields.specs.Fields.{seg_id, timestamp}
 use Rattle.records.specs.Layout.{layout_of}
 use Rattle.segment_check.proofs.All.{asked_no, asked_yes, asked_all}
-use Rattle.segment_check.proofs.Walked.{Walked, walked_none, chained_next, hop_answered, record_more, segment_early, segment_begun}
+use Rattle.segment_check.proofs.Walked.{Walked, walked_none, hop_answered, record_more, segment_early, segment_begun}
 use Rattle.segment_check.proofs.segments.segment_fits.Statement.{statement}
 use Rattle.segment_check.proofs.segments.segment_fits.Tie as tie
 
@@ -26,6 +26,14 @@ loop-holds c =
     let info-field = c.before.before.before.before.info-field in
     walked_none _ _ _ _ _ _ _ (c.segment-id.ensures ∙ ap seg_id info-field.ensures)
 
+chained-segment-id-requires : tie.Need-chained-segment-id-requires invariant-loop decreases-loop
+chained-segment-id-requires c κs =
+    let hop-count = c.before.before.before.hop-count in
+    (c.before.loop.invariant.chained, omega (arith, hop-count.ensures.1))
+
+hop-of-requires : tie.Need-hop-of-requires invariant-loop decreases-loop
+hop-of-requires c κs = let hop-count = c.before.before.before.before.hop-count in omega (arith, hop-count.ensures.1)
+
 returns-2 : tie.Need-returns-2 invariant-loop decreases-loop
 returns-2 c =
     let pre = c.before.before.before.before.before.before.before.before.before.before.before.before.before.requires in
@@ -34,8 +42,8 @@ returns-2 c =
     let if1 = c.before.before.before.before.before.before.before.before.if1 in
     let hop-count = c.before.before.before.before.before.before.before.hop-count in
     let walked = c.before.before.before.before.before.loop.invariant in
-    let chained = chained_next walked (omega (arith, hop-count.ensures.1)) c.before.before.before.chained-segment-id.ensures in
-    let answered = hop_answered walked pre chained info-field.ensures c.before.before.hop-of.ensures
+    let chained-segment-id = c.before.before.before.chained-segment-id in
+    let answered = hop_answered walked pre chained-segment-id.ensures info-field.ensures c.before.before.hop-of.ensures
     hop-count.ensures.0 c.before.hop-fits.ensures in
     segment_begun _ _ _ _ _ _ _ (read.ensures ∙ ap timestamp info-field.ensures) if1.false
     (asked_no walked.asked (omega (arith, hop-count.ensures.0)) answered c.if2.true)
@@ -47,14 +55,14 @@ loop-again c =
     let hop-count = c.before.before.before.before.before.before.before.before.hop-count in
     let loop = c.before.before.before.before.before.before.loop in
     let walked = loop.invariant in
-    let chained = chained_next walked (omega (arith, hop-count.ensures.1)) c.before.before.before.before.chained-segment-id.ensures in
-    let answered = hop_answered walked pre chained info-field.ensures c.before.before.before.hop-of.ensures
+    let chained-segment-id = c.before.before.before.before.chained-segment-id in
+    let answered = hop_answered walked pre chained-segment-id.ensures info-field.ensures c.before.before.before.hop-of.ensures
     hop-count.ensures.0 c.before.before.hop-fits.ensures in
     let less : loop.hop + 1 - 1 ≡ loop.hop = omega arith in
     record {
       asked = asked_yes walked.asked (omega (arith, hop-count.ensures.0)) answered c.before.if2.false;
       reached = record_more _ _ _ _ walked.reached c.next-station.ensures;
-      chained = rw less chained;
+      chained = rw less chained-segment-id.ensures;
     }
 
 returns-3 : tie.Need-returns-3 invariant-loop decreases-loop
@@ -78,8 +86,8 @@ segment-fits-spec =
     (λ c κs. search rules)
     (λ c κs. search rules)
     loop-holds
-    (λ c κs. search rules)
-    (λ c κs. search rules)
+    chained-segment-id-requires
+    hop-of-requires
     (λ c. search rules)
     (λ c κs. search rules)
     returns-2

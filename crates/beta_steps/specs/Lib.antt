@@ -1,2 +1,0 @@
-pub mod BetaSteps
-pub mod Inner

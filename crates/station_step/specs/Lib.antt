@@ -1,2 +1,0 @@
-pub mod StationStep
-pub mod Inner
