@@ -16,6 +16,10 @@ import re
 WORD = r"[A-Za-z_][A-Za-z0-9_'\u2080-\u2089-]*"
 CAMEL = re.compile(r"(?<![A-Za-z0-9_'-])[a-z][A-Za-z0-9_'-]*")
 DECLARED = re.compile(r"^(\s*)((?:(?:abbrev|unfoldable|axiom|pub|data|record|ruleset)\s+)*)([^\s:(){}=|;,\u03bb]+(?:\s+[^\s:(){}=|;,\u03bb]+)*)\s+:\s(.*)$")
+# The toolchain's script has spelled this one by a name that is no more.
+OTHERS = {"get_d_tabulate": "get_or_tabulate"}
+RECORD = re.compile(r"^(\s*)(?:pub )?record .*where\s*$")
+FIELD = re.compile(r"^(\s*)(?:pub )?([^\s:]+(?: [^\s:]+)*) :")
 # Spelled like a definition of another crate that the same files speak of, or like one of their own crate.
 FALLS = {"goes_on"}
 
@@ -38,12 +42,29 @@ def declared(text):
                 yield name, m.group(4)
 
 
+def fields(text):
+    """The fields with a dash that records of this repository declare."""
+    depth = None
+    for line in text.split("\n"):
+        m = RECORD.match(line)
+        if m:
+            depth = len(m.group(1))
+        elif depth is not None and line.strip():
+            if len(line) - len(line.lstrip()) <= depth:
+                depth = None
+            else:
+                k = FIELD.match(line)
+                if k and len(k.group(1)) == depth + 2:
+                    yield from (n for n in k.group(2).split() if "-" in n)
+
+
 def main():
     specs = sorted(glob.glob("crates/*/specs/**/*.antt", recursive=True))
     lemmas = sorted(f for f in glob.glob("crates/*/proofs/**/*.antt", recursive=True) if os.path.basename(f) != "Proof.antt")
     walks = sorted(f for f in glob.glob("crates/*/proofs/**/Proof.antt", recursive=True))
     own = {os.path.basename(d.rstrip("/")) for d in glob.glob("crates/*/")}
 
+    own_fields = {n: snake(n).replace("-", "_") for f in specs + lemmas for n in fields(read(f))}
     definitions = {snake(n) for f in specs for n, _ in declared(read(f))}
     inner = {snake(n) for f in lemmas for n, _ in declared(read(f)) if "-" not in n}
     taken = definitions | inner
@@ -80,6 +101,10 @@ def main():
 
         def word(m):
             name = m.group(0)
+            if name in own_fields:
+                return own_fields[name]
+            if name in OTHERS:
+                return OTHERS[name]
             before = text[: m.start()]
             if before.endswith(".") and not before.endswith(".."):
                 k = re.search(WORD + r"\.$", before)

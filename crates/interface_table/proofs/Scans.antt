@@ -47,7 +47,7 @@ module _ (states : List ℕ) (i : ℕ) where
 
 -- ---- the first entry with the number wanted
 
-module _ (ids states : List ℕ) (wanted i : ℕ) (in_ids : i < length ids) (in-states : i < length states) where
+module _ (ids states : List ℕ) (wanted i : ℕ) (in_ids : i < length ids) (in_states : i < length states) where
   entry_more : state_of (drop i ids) (drop i states) wanted
       ≡ cond (eqb (get_or ids i 0) wanted) (State (get_or states i 0)) (state_of (drop (i + 1) ids) (drop (i + 1) states) wanted)
   unfolding state_of

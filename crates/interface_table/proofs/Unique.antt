@@ -27,7 +27,7 @@ pub record Entry (ids states : List ℕ) (id state : ℕ) : Type 0 where
   pub has_state : get_or states place 0 ≡ state
 
 later : {ids states : List ℕ} {first beside id state : ℕ} → Entry ids states id state → Entry (first ∷ ids) (beside ∷ states) id state
-later e = record { place = suc e.place; in_ids = omega arith; in_states = omega arith; has_id = e.has-id; has_state = e.has-state }
+later e = record { place = suc e.place; in_ids = omega arith; in_states = omega arith; has_id = e.has_id; has_state = e.has_state }
 
 pub found_entry : (ids states : List ℕ) (id state : ℕ) → state_of ids states id ≡ State state → Entry ids states id state
 unfolding state_of
@@ -56,7 +56,7 @@ none_at (first ∷ ids) (beside ∷ states) id (suc k) q g h e =
     passed false q = q
 
 pub none_found : (ids states : List ℕ) (id state : ℕ) → state_of ids states id ≡ Nothing → Entry ids states id state → ⊥
-none_found ids states id state q e = none_at ids states id e.place q e.in_ids e.in-states e.has-id
+none_found ids states id state q e = none_at ids states id e.place q e.in_ids e.in_states e.has_id
 
 pub unlisted_none : (ids states : List ℕ) (id : ℕ) → ((state : ℕ) → Entry ids states id state → ⊥) → state_of ids states id ≡ Nothing
 unlisted_none ids states id h = by (state_of ids states id) refl
@@ -134,9 +134,9 @@ module _ (ids states : List ℕ) (sound : table_sound ids states ≡ true) where
       omega arith
 
   pub entry_found : (id state : ℕ) → Entry ids states id state → state_of ids states id ≡ State state
-  entry_found id state e = rw (← e.has-id, ← e.has-state) (found_at ids states parts.2 e.place e.in_ids e.in-states)
+  entry_found id state e = rw (← e.has_id, ← e.has_state) (found_at ids states parts.2 e.place e.in_ids e.in_states)
 
   pub found_below_8 : (id state : ℕ) → state_of ids states id ≡ State state → state < 8
   found_below_8 id state q =
       let e = found_entry ids states id state q in
-      rw (← e.has-state) (sound_states e.place e.in-states)
+      rw (← e.has_state) (sound_states e.place e.in_states)

@@ -46,8 +46,8 @@ module _ {edition : Edition} {path : List ℕ} {stations : List Station} {earlie
     kept = kept_self path;
     inf = a.inf;
     hf = a.hf;
-    hop-same = λ j. refl;
-    info-same = λ i. same_info refl;
+    hop_same = λ j. refl;
+    info_same = λ i. same_info refl;
     seg = go (cons_dir (info_field path 0));
     later = λ i l. refl;
     earlier = λ (i : ℕ) (l : i < 0). absurd (omega arith);

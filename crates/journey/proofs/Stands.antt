@@ -56,20 +56,20 @@ pub record Stands (edition : Edition) (path now' : List ℕ) (t m value : ℕ) :
 module _ {edition : Edition} {path mid : List ℕ} {t m value : ℕ} (s : Stands edition path mid t m value) where
   -- what the step reads there
   pub hop_here : hop mid ≡ hop_of path t m
-  hop_here = rw (s.hf, s.hop-same)
+  hop_here = rw (s.hf, s.hop_same)
 
   pub dir_here : cons_dir (info mid) ≡ cons_dir (info_field path t)
-  dir_here = rw s.inf (s.info-same t).dir
+  dir_here = rw s.inf (s.info_same t).dir
 
   -- a path stays a peering path, or none, and 28 is answered alike
   pub peering_path_here : peering_path edition mid ≡ peering_path edition path
-  peering_path_here = peering_path_kept s.kept (λ i l. (s.info-same i).peer) edition
+  peering_path_here = peering_path_kept s.kept (λ i l. (s.info_same i).peer) edition
 
   pub fits_here : peering_questions edition mid ≡ peering_questions edition path
-  fits_here = questions_kept s.kept (λ i l. (s.info-same i).peer) edition
+  fits_here = questions_kept s.kept (λ i l. (s.info_same i).peer) edition
 
   pub peer_here : is_peering_hop edition mid ≡ peering_hop_of edition path t m
-  peer_here = rw s.hf (peering_hop_kept s.kept (λ i l. (s.info-same i).peer) edition (start_of path t + m))
+  peer_here = rw s.hf (peering_hop_kept s.kept (λ i l. (s.info_same i).peer) edition (start_of path t + m))
 
   pub crosses_here : crosses edition mid ≡ first_peering_hop edition path (start_of path t + m)
   crosses_here = rw (s.hf, peering_path_here, s.kept.seg0)
@@ -95,11 +95,11 @@ module _ {edition : Edition} {path mid : List ℕ} {t m value : ℕ} (s : Stands
     kept = kept_trans s.kept (stepped_kept mid info_among taken);
     inf = stepped_inf mid info_among taken ∙ s.inf;
     hf = stepped_hf mid info_among taken ∙ s.hf;
-    hop_same = λ j. stepped_hop mid info_among taken j ∙ s.hop-same j;
-    info_same = λ i. same_info_trans (s.info-same i) (stepped_info mid info_among taken i);
+    hop_same = λ j. stepped_hop mid info_among taken j ∙ s.hop_same j;
+    info_same = λ i. same_info_trans (s.info_same i) (stepped_info mid info_among taken i);
     seg =
         let e = stepped_seg_id_lem mid info_among taken info_room in
-        rw (s.inf, s.hf, s.hop-same, s.seg) at e;
+        rw (s.inf, s.hf, s.hop_same, s.seg) at e;
     later = λ i l. stepped_info_other mid info_among taken i (λ e. omega (arith, s.inf)) ∙ s.later i l;
     earlier = λ i l. ap seg_id (stepped_info_other mid info_among taken i (λ e. omega (arith, s.inf))) ∙ s.earlier i l;
   }
@@ -113,8 +113,8 @@ module _ {edition : Edition} {path mid : List ℕ} {t m value : ℕ} (s : Stands
         kept = kept_trans s.kept (set_hf_kept mid n);
         inf = inf_after_hf mid n some ∙ s.inf;
         hf = hf_after_hf mid n some few ∙ e;
-        hop_same = λ j. set_hf_hop mid n j ∙ s.hop-same j;
-        info_same = λ i. rw (set_hf_info mid n i) (s.info-same i);
+        hop_same = λ j. set_hf_hop mid n j ∙ s.hop_same j;
+        info_same = λ i. rw (set_hf_info mid n i) (s.info_same i);
         seg = rw (set_hf_info mid n t) s.seg;
         later = λ i l. set_hf_info mid n i ∙ s.later i l;
         earlier = λ i l. ap seg_id (set_hf_info mid n i) ∙ s.earlier i l;
@@ -132,8 +132,8 @@ module _ {edition : Edition} {path mid : List ℕ} {t m value : ℕ} (s : Stands
         kept = kept_trans s.kept (kept_trans (set_hf_kept mid n) (set_inf_kept on u));
         inf = inf_after_inf on u more (omega arith);
         hf = hf_after_inf on u more ∙ hf_after_hf mid n some few ∙ e;
-        hop_same = λ j. set_inf_hop on u j ∙ set_hf_hop mid n j ∙ s.hop-same j;
-        info_same = λ i. rw (set_inf_info on u i, set_hf_info mid n i) (s.info-same i);
+        hop_same = λ j. set_inf_hop on u j ∙ set_hf_hop mid n j ∙ s.hop_same j;
+        info_same = λ i. rw (set_inf_info on u i, set_hf_info mid n i) (s.info_same i);
         seg = rw (set_inf_info on u u, set_hf_info mid n u, s.later u (omega arith));
         later = λ i l. set_inf_info on u i ∙ set_hf_info mid n i ∙ s.later i (omega arith);
         earlier = λ i l. ap seg_id (set_inf_info on u i ∙ set_hf_info mid n i) ∙ before i l (eqb i t) refl;

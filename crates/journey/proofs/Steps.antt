@@ -146,7 +146,7 @@ module _ {edition : Edition} {path mid : List ℕ} {t m : ℕ} (g : Given path)
   before_valid = before_asked station.ids station.states g s.kept r.sound
 
   start_here : timestamp (info mid) ≡ timestamp (info_field path t)
-  start_here = rw s.inf (s.info-same t).start
+  start_here = rw s.inf (s.info_same t).start
 
   seg_here : ingress_seg_id edition mid station.arrival ≡ checked_seg_id edition path t m
   seg_here =
@@ -204,7 +204,7 @@ module _ {edition : Edition} {path mid : List ℕ} {t m : ℕ} (g : Given path)
     next_index = omega (arith, s.hf, start_next path t behind.0)
 
     next_hop_lem : next_hop mid ≡ hop_of path (t + 1) 0
-    next_hop_lem = rw (next_index, s.hop-same)
+    next_hop_lem = rw (next_index, s.hop_same)
 
     next_info_lem : next_info mid ≡ info_field path (t + 1)
     next_info_lem = rw s.inf (s.later (t + 1) (omega arith))

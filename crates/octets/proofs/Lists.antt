@@ -19,8 +19,8 @@ get_or_from f zero i j h = absurd (not-suc-le-zero h)
 get_or_from f (suc n) i zero h = ap f (omega arith)
 get_or_from f (suc n) i (suc j) h = get_or_from f n (suc i) j (le_of_suc-le-suc h) ∙ ap f (omega arith)
 
-pub get_d_tabulate : (f : ℕ → ℕ) (n j : ℕ) → j < n → get_or (tabulate n 0 f) j 0 ≡ f j
-get_d_tabulate f n j h = get_or_from f n 0 j h ∙ ap f (omega arith)
+pub get_or_tabulate : (f : ℕ → ℕ) (n j : ℕ) → j < n → get_or (tabulate n 0 f) j 0 ≡ f j
+get_or_tabulate f n j h = get_or_from f n 0 j h ∙ ap f (omega arith)
 
 -- the elements of a list, one by one
 pub tabulate_get_or : (l : List ℕ) (n i : ℕ) → i + n ≡ length l → tabulate n i (λ j. get_or l j 0) ≡ drop i l
@@ -33,7 +33,7 @@ tabulate_get_or l (suc n) i e =
 pub tabulate_take : (l : List ℕ) (n : ℕ) → n ≤ length l → tabulate n 0 (λ j. get_or l j 0) ≡ take n l
 tabulate_take l n h =
     ext_get_or 0 _ _ (length_tabulate _ n 0 ∙ sym (length-take-le n l h))
-    (λ i b. let c : i < n = rw (length_tabulate _ n 0) at b in get_d_tabulate _ n i c ∙ sym (get_or-take n l i 0 c))
+    (λ i b. let c : i < n = rw (length_tabulate _ n 0) at b in get_or_tabulate _ n i c ∙ sym (get_or-take n l i 0 c))
 
 -- the first i elements of r are those of l
 pub record Filled {A : Type 0} (d : A) (l r : List A) (i : ℕ) : Type 0 where
@@ -69,4 +69,4 @@ filled_first d {l} {xs} {x} e q = record { size = e; within = omega arith; front
 -- the same for a list by a rule
 pub tabulated_more : (n : ℕ) (f : ℕ → ℕ) {r : List ℕ} {i : ℕ} (v : ℕ) → v ≡ f i → i < n
     → Filled 0 (tabulate n 0 f) r i → Filled 0 (tabulate n 0 f) (set r i v) (i + 1)
-tabulated_more n f v q h p = filled_more 0 v (q ∙ sym (get_d_tabulate f n _ h)) (rw (length_tabulate f n 0) h) p
+tabulated_more n f v q h p = filled_more 0 v (q ∙ sym (get_or_tabulate f n _ h)) (rw (length_tabulate f n 0) h) p

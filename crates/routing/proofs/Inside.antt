@@ -91,14 +91,14 @@ module _ (mac : MacFunction) (interface time : ℕ) (unchecked : Bool) {hop1 hop
       → travel_egress (cons_dir info1) hop1 ≡ out
       → first_no (hop_questions mac (at_ingress interface time unchecked) index hop1 info1 value) ≡ Valid
       → first_no (hop_questions mac (at_egress out time unchecked) again hop2 info2 (seg_id info2)) ≡ Valid
-  passes_again hop-same info-same index again {value} {out} seg leaves e =
+  passes_again hop_same info_same index again {value} {out} seg leaves e =
       let stamp = rest_yes _ _ _ e in
       let life = rest_yes _ _ _ stamp in
       let right = rest_yes _ _ _ life in
       let alike : hop_questions mac (at_egress out time unchecked) again hop2 info2 (seg_id info2)
       ≡ hop_questions mac (at_egress out time unchecked) again hop1 info1 value =
-      rw (info-same.dir, info-same.start, same_egress (cons_dir info1) hop-same, hop-same.units, hop-same.into, hop-same.out)
-      (rw (hop-same.mac, seg)) in
+      rw (info_same.dir, info_same.start, same_egress (cons_dir info1) hop_same, hop_same.units, hop_same.into, hop_same.out)
+      (rw (hop_same.mac, seg)) in
       ap first_no alike
       ∙ both_yes _ _ _ (eq-eqb _ _ leaves)
       (both_yes _ _ _ (first_yes _ _ _ stamp)
@@ -220,7 +220,7 @@ module _ (edition : Edition) (ids states : List ℕ) (mac : MacFunction) (interf
     among = rw fields.hf s.among;
     inside = rw fields.inf s.inside;
     passes = rw (fields.hf, fields.inf)
-        (passes_again mac interface time unchecked fields.hop-here fields.info-here _ _ fields.seg leaves checks);
+        (passes_again mac interface time unchecked fields.hop_here fields.info_here _ _ fields.seg leaves checks);
   }
 
   change_hf : changes edition path ≡ true → curr_hf (ingress_move edition path interface true) ≡ curr_hf path + 1
@@ -248,9 +248,9 @@ module _ (edition : Edition) (ids states : List ℕ) (mac : MacFunction) (interf
       let hf : curr_hf after ≡ curr_hf path + 1 = change_hf changing in
       let inf : curr_inf after ≡ curr_inf path + 1 = inf_after_inf advanced _ more (omega (arith, next, infos_few path)) in
       let hop-next : hop_field after (curr_hf path + 1) ≡ next_hop path =
-      set_inf_hop advanced _ _ ∙ set_hf_hop fields-moved _ _ ∙ fields.hop-other _ (λ e. omega arith) in
+      set_inf_hop advanced _ _ ∙ set_hf_hop fields-moved _ _ ∙ fields.hop_other _ (λ e. omega arith) in
       let info-next : info_field after (curr_inf path + 1) ≡ next_info path =
-      set_inf_info advanced _ _ ∙ set_hf_info fields-moved _ _ ∙ fields.info-other _ next (λ e. omega arith) in
+      set_inf_info advanced _ _ ∙ set_hf_info fields-moved _ _ ∙ fields.info_other _ next (λ e. omega arith) in
       let change-asked = change_questions ids states (curr_hf path) (hop path) (info path) (next_hop path) (next_info path) in
       record {
         among = rw hf far;
