@@ -1,4 +1,6 @@
 // AES-128's cipher, FIPS 197, section 5.1, equal to its definition on all inputs. The state goes by the words of its columns.
+#![tactic(auto)]
+
 mod tables;
 
 ghost use Rattle.std.specs.Prelude.{◌≡◌, ◌/◌, ◌%◌};

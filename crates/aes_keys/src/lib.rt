@@ -1,4 +1,6 @@
 // AES-128's key expansion, FIPS 197, section 5.2, equal to its definition on all inputs.
+#![tactic(auto)]
+
 ghost use Rattle.std.specs.Prelude.{◌≡◌, [], ◌∷◌};
 ghost use Rattle.aes_sbox.specs.Field.{s_box, sub_byte};
 ghost use Rattle.aes_words.specs.Words.{word_bytes, words_bytes};

@@ -1,4 +1,6 @@
 // AES's S-box, FIPS 197. Its rule, inverse in the field and then the affine map, is shown over the whole table.
+#![tactic(auto)]
+
 ghost use Rattle.std.specs.Prelude.{◌≡◌};
 ghost use Rattle.aes_sbox.specs.Field.{s_box};
 

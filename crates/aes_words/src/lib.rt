@@ -1,4 +1,6 @@
 // Four bytes in a machine word, the first in its lowest place; a block as four such words.
+#![tactic(auto)]
+
 ghost use Rattle.std.specs.Prelude.{◌≡◌, [], ◌∷◌};
 ghost use Rattle.aes_words.specs.Block.{xor_block};
 ghost use Rattle.aes_words.specs.Words.{word_bytes, words_bytes, block_words, state_bytes, rotated};

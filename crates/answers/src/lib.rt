@@ -6,6 +6,8 @@
 // Copyright 2025 Anapaya Systems
 // Copyright 2026 Anapaya Systems
 // Licensed under the Apache License, Version 2.0: see NOTICE.
+#![tactic(auto)]
+
 pub mod number;
 
 use standard_path::view::HeaderError;

@@ -1,4 +1,6 @@
 // The hop MAC for C, which bench/mac.c calls and times.
+#![tactic(auto)]
+
 ghost use Rattle.std.specs.Prelude.{◌≡◌, [], ◌∷◌};
 ghost use Rattle.hop_mac.specs.Mac.{hop_mac};
 

@@ -5,6 +5,8 @@
 // rewritten in Rattle, with contracts; one key schedule serves all MACs of a call.
 // Copyright 2026 Anapaya Systems
 // Licensed under the Apache License, Version 2.0: see NOTICE.
+#![tactic(auto)]
+
 ghost use Rattle.std.specs.Prelude.{◌≡◌, false, drop};
 ghost use Rattle.answers.specs.Questions.{first_no};
 ghost use Rattle.validator.specs.Check.{key_mac};

@@ -1,4 +1,6 @@
 // AES-CMAC, RFC 4493, equal to its definition on all inputs.
+#![tactic(auto)]
+
 ghost use Rattle.std.specs.Prelude.{◌≡◌, ◌+◌, ◌-◌, ◌*◌, ◌/◌, ◌%◌, ◌≤◌, length};
 ghost use Rattle.aes_words.specs.Block.{xor_block};
 ghost use Rattle.aes.specs.ByTable.{cipher_by};

@@ -1,4 +1,6 @@
 // The two editions of the step, and all that they decide differently.
+#![tactic(auto)]
+
 ghost use Rattle.std.specs.Prelude.{◌≡◌, ◌+◌, eqb};
 ghost use Rattle.standard_path.specs.Meta.{seg0_len};
 ghost use Rattle.fields.specs.Fields.{peering};

@@ -6,6 +6,8 @@
 // Copyright 2025 Anapaya Systems
 // Copyright 2026 Anapaya Systems
 // Licensed under the Apache License, Version 2.0: see NOTICE.
+#![tactic(auto)]
+
 ghost use Rattle.std.specs.Prelude.{◌≡◌};
 ghost use Rattle.questions.specs.Questions.{asks};
 ghost use Rattle.answers.specs.declared.StepAnswer.TheVariants.{Refused};

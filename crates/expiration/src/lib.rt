@@ -4,6 +4,8 @@
 // 866faf5ba3, and changed: rewritten in Rattle, with contracts; a header that is not whole is refused.
 // Copyright 2026 Anapaya Systems
 // Licensed under the Apache License, Version 2.0: see NOTICE.
+#![tactic(auto)]
+
 ghost use Rattle.std.specs.Prelude.{◌≡◌, map, min};
 ghost use Rattle.segments.specs.Segments.{segments};
 ghost use Rattle.expiration.specs.Expiration.{least, segment_expiry, path_expiry, expiration, expiration_number};

@@ -1,3 +1,5 @@
 // The calls for programs that are not Rattle: thin functions over slices and numbers, with an answer that is a struct of numbers.
+#![tactic(auto)]
+
 pub mod calls;
 pub mod editions;

@@ -5,6 +5,8 @@
 // 866faf5ba3, and changed: rewritten in Rattle, with contracts; a view is a slice of bytes.
 // Copyright 2026 Anapaya Systems
 // Licensed under the Apache License, Version 2.0: see NOTICE.
+#![tactic(auto)]
+
 pub mod layout;
 
 ghost use Rattle.std.specs.Prelude.{◌≡◌, ◌+◌, get_or};

@@ -1,4 +1,6 @@
 // What is asked of a hop at its station: expiry, MAC, the interface that it arrives by and the one that it leaves by.
+#![tactic(auto)]
+
 ghost use Rattle.std.specs.Prelude.{◌≡◌};
 ghost use Rattle.records.specs.Layout.{layout_of};
 ghost use Rattle.records.specs.Records.{key_of};

@@ -4,6 +4,8 @@
 // rewritten in Rattle, with contracts; the traits and the iterator of `mac_chaining_beta` are left out.
 // Copyright 2026 Anapaya Systems
 // Licensed under the Apache License, Version 2.0: see NOTICE.
+#![tactic(auto)]
+
 ghost use Rattle.std.specs.Prelude.{◌≡◌, take};
 ghost use Rattle.aes.specs.ByTable.{cipher_by};
 ghost use Rattle.cmac.specs.Cmac.{mac_with};

@@ -5,6 +5,8 @@
 // interface states are bytes, and the lookup goes along two lent lists.
 // Copyright 2025 Anapaya Systems
 // Licensed under the Apache License, Version 2.0: see NOTICE.
+#![tactic(auto)]
+
 ghost use Rattle.std.specs.Prelude.{◌≡◌};
 ghost use Rattle.interface_table.specs.Table.{ids_ascending, states_sound, table_sound, state_of, link_type, is_up, pair_allowed};
 

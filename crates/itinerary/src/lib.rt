@@ -1,4 +1,6 @@
 // Whether an itinerary fits a path: question 23 but for the clock readings, on all inputs.
+#![tactic(auto)]
+
 ghost use Rattle.std.specs.Prelude.{◌≡◌, ◌+◌, not, eqb, length};
 ghost use Rattle.records.specs.Layout.{layout_of};
 ghost use Rattle.records.specs.Records.{every, arrival_of, chain_within};

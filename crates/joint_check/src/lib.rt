@@ -1,4 +1,6 @@
 // The check of a path's joints: the last hop of a segment and the first of the next, at one station, or at two over a peering link.
+#![tactic(auto)]
+
 ghost use Rattle.std.specs.Prelude.{◌≡◌, ◌+◌, ◌-◌, ◌<◌, get_or};
 ghost use Rattle.standard_path.specs.Header.{infos};
 ghost use Rattle.records.specs.Layout.{layout_of};

@@ -5,6 +5,8 @@
 // 866faf5ba3, and changed: rewritten in Rattle, with contracts; all reads come before the first write.
 // Copyright 2026 Anapaya Systems
 // Licensed under the Apache License, Version 2.0: see NOTICE.
+#![tactic(auto)]
+
 ghost use Rattle.std.specs.Prelude.{◌≡◌, not, cond};
 ghost use Rattle.hop_mac.specs.Mac.{mac_beta_step};
 ghost use Rattle.fields.specs.Fields.{seg_id, mac_field};

@@ -1,5 +1,7 @@
 // Bytes at a place of a slice, and big-endian numbers, on all inputs: past the end there are zeros, and a store does nothing.
 // The laws of lists and of xor that other crates cite stand in this crate's proofs/.
+#![tactic(auto)]
+
 ghost use Rattle.std.specs.Prelude.{◌≡◌, ◌+◌, ◌*◌, get_or, set};
 ghost use Rattle.octets.specs.Bytes.{from_be16, be16_at, be32_at};
 

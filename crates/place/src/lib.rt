@@ -5,6 +5,8 @@
 // rewritten in Rattle, with contracts; the questions are asked before anything else is done.
 // Copyright 2026 Anapaya Systems
 // Licensed under the Apache License, Version 2.0: see NOTICE.
+#![tactic(auto)]
+
 ghost use Rattle.std.specs.Prelude.{◌≡◌};
 ghost use Rattle.questions.specs.Questions.{within};
 ghost use Rattle.standard_path.specs.Header.{header_questions};

@@ -1,6 +1,8 @@
 // What is asked of an itinerary's size and of one record by itself, on all inputs.
 //
 // Questions are joined by `&`: a plan is nearly always sound.
+#![tactic(auto)]
+
 ghost use Rattle.std.specs.Prelude.{◌≡◌};
 ghost use Rattle.records.specs.Layout.{layout_of};
 ghost use Rattle.record_rules.specs.Rules.{size_sound, index_sound, next_sound, are_zero, zeros_sound, head_sound};

@@ -1,4 +1,6 @@
 // The fields of an itinerary's records, one function for each, on all inputs: a byte past the end counts as 0.
+#![tactic(auto)]
+
 pub mod form;
 pub mod layout;
 

@@ -1,4 +1,6 @@
 // Answers as numbers, for callers that know no enum of Rattle.
+#![tactic(auto)]
+
 ghost use Rattle.std.specs.Prelude.{◌≡◌, [], ◌∷◌};
 ghost use Rattle.scmp.specs.declared.ScmpError.TheVariants.{NoMessage};
 ghost use Rattle.reply.specs.Reply.{reply, refusal_reply, action_reply, step_reply, ingress_reply};

@@ -4,6 +4,8 @@
 // 866faf5ba3, and changed: rewritten in Rattle, with contracts; a view is a slice of bytes; the error has a variant for each cause.
 // Copyright 2026 Anapaya Systems
 // Licensed under the Apache License, Version 2.0: see NOTICE.
+#![tactic(auto)]
+
 ghost use Rattle.std.specs.Prelude.{◌≡◌};
 ghost use Rattle.questions.specs.Questions.{asks};
 ghost use Rattle.reverse.specs.Reverse.{reverse_number, index_questions, reverse_answer, reversed, bytes_left, reverse_bytes};

@@ -4,6 +4,8 @@
 // 866faf5ba3, and changed: rewritten in Rattle, with contracts; a view is a slice of bytes.
 // Copyright 2026 Anapaya Systems
 // Licensed under the Apache License, Version 2.0: see NOTICE.
+#![tactic(auto)]
+
 ghost use Rattle.std.specs.Prelude.{◌≡◌, ◌+◌, ◌*◌, ◌<◌, ◌≤◌};
 ghost use Rattle.reverse_parts.specs.Parts.{set_lengths, swap_lengths, toggle_cons_dirs, reverse_fields};
 ghost use Rattle.reverse_parts.specs.Inner.{swap_fields, reverse_parts_there};

@@ -1,1 +1,2 @@
 // Theorems about the forwarding step, in proofs/. There is no code.
+#![tactic(auto)]

@@ -16,6 +16,8 @@
 // reverse and expiration look at neither. IGNORE_MACS is 0 or 1.
 //
 // A line of output is what the call's line says, the answer by its number, and of the bytes left those that are not what they were.
+#![tactic(auto)]
+
 mod calls;
 mod print;
 mod words;

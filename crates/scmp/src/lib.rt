@@ -4,6 +4,8 @@
 // at commit 866faf5ba3, and changed: rewritten in Rattle, with contracts; type, code and pointer or interface, without the message.
 // Copyright 2025 Anapaya Systems
 // Licensed under the Apache License, Version 2.0: see NOTICE.
+#![tactic(auto)]
+
 ghost use Rattle.std.specs.Prelude.{◌≡◌};
 ghost use Rattle.scmp.specs.Scmp.{interface_error, to_scmp_error};
 

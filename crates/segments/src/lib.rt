@@ -5,6 +5,8 @@
 // numbers, of which `view::info_field` and `hop_fields` make its parts.
 // Copyright 2026 Anapaya Systems
 // Licensed under the Apache License, Version 2.0: see NOTICE.
+#![tactic(auto)]
+
 ghost use Rattle.std.specs.Prelude.{◌≡◌, eqb};
 ghost use Rattle.segments.specs.Segments.{segment_count, seg_len, hop_fields, next_segment, place_after, is_end};
 ghost use Rattle.segments.specs.Segments.{started, step_of, advanced};

@@ -1,6 +1,8 @@
 // Whether an itinerary is sound. Chains are followed only as far as a limit goes, so that the work is bounded whatever the bytes.
 //
 // Questions are joined by `&`: a plan is nearly always sound, and a loop stops at its first bad record anyway.
+#![tactic(auto)]
+
 ghost use Rattle.std.specs.Prelude.{◌≡◌, true, ◌<◌, ◌≤◌};
 ghost use Rattle.records.specs.Layout.{layout_of};
 ghost use Rattle.records.specs.Records.{every, chain_within};

@@ -1,2 +1,4 @@
 // The header of SCION's standard path.
+#![tactic(auto)]
+
 pub mod view;

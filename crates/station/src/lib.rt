@@ -1,4 +1,6 @@
 // A station of an itinerary: which record it is, and what its table holds.
+#![tactic(auto)]
+
 ghost use Rattle.std.specs.Prelude.{◌≡◌, get_or};
 ghost use Rattle.interface_table.specs.Table.{table_sound, state_of};
 ghost use Rattle.records.specs.Layout.{layout_of};

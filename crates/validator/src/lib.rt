@@ -4,6 +4,8 @@
 // 866faf5ba3, and changed: rewritten in Rattle, with contracts; one fixed set of checks in place of a trait.
 // Copyright 2025 Anapaya Systems
 // Licensed under the Apache License, Version 2.0: see NOTICE.
+#![tactic(auto)]
+
 ghost use Rattle.std.specs.Prelude.{◌≡◌, ◌||◌, false, ◌+◌, ◌*◌, eqb};
 ghost use Rattle.answers.specs.Questions.{first_no};
 ghost use Rattle.validator.specs.Check.{mac_number, interface_fits, wrong_interface, right_mac};

@@ -1,4 +1,6 @@
 // Known answers of FIPS 197 and RFC 4493, and hop MACs that Python worked out, each on a line.
+#![tactic(auto)]
+
 use libc::STDOUT_FILENO;
 
 // The key of FIPS 197, appendices A.1 and B, and of RFC 4493, section 4.

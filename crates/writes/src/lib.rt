@@ -5,6 +5,8 @@
 // 866faf5ba3, and changed: rewritten in Rattle, with contracts.
 // Copyright 2026 Anapaya Systems
 // Licensed under the Apache License, Version 2.0: see NOTICE.
+#![tactic(auto)]
+
 ghost use Rattle.std.specs.Prelude.{◌≡◌, not};
 ghost use Rattle.fields.specs.Fields.{by_direction};
 ghost use Rattle.writes.specs.Writes.{set_seg_id, without_egress, without_ingress, alert_cleared_at};
