@@ -4,7 +4,7 @@ ghost use Rattle.records.specs.Layout.{layout_of, offset};
 
 use crate::layout::{InterfaceRecordLayout, RecordLayout, StationLayout};
 
-#[derive(Drop)]
+#[derive(Clone, Copy)]
 pub enum Form {
     Narrow,
 }

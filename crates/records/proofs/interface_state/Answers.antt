@@ -1,0 +1,6 @@
+use Rattle.records.specs.Records.{interface_state_of}
+use Rattle.records.proofs.interface_state.Goals as goal
+
+pub returns : goal.returns
+unfolding interface_state_of
+returns c = rw (← c.state.ensures, ← c.offset.ensures.0) c.byte_at.ensures
