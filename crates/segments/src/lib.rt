@@ -66,13 +66,13 @@ pub fn hop_fields(path: &[u8], first_hop: u8, hop_count: u8) -> &[u8]
 // ---- a step along the segments
 
 // The next segment, and its first hop.
-#[derive(Drop)]
+#[derive(Clone, Copy)]
 pub struct SegmentPlace {
     pub seg_idx: u8,
     pub hop_idx: u8,
 }
 
-#[derive(Drop)]
+#[derive(Clone, Copy)]
 pub enum SegmentStep {
     Segment {
         info_idx: u8,
@@ -130,7 +130,7 @@ pub fn is_end(step: SegmentStep) -> bool
 // ---- the iterator
 
 // It is plain data but for the path, so a copy of it is a walk of its own.
-#[derive(Drop)]
+#[derive(Clone, Copy)]
 pub struct SegmentIterator<'a> {
     path: &'a [u8],
     place: SegmentPlace,

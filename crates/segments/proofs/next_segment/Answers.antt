@@ -1,0 +1,27 @@
+use mathlib.Core.Path.{sym}
+use native.Mathlib.Omega.{arith}
+use Rattle.segments.proofs.Walk.{step_ends, step_short, step_goes}
+use Rattle.segments.proofs.next_segment.Goals as goal
+
+pub returns-then-segment_count-segment : goal.returns-then-segment_count-segment
+returns-then-segment_count-segment c =
+    let a = c.args in
+    sym (step_ends a.path.now a.place.seg_idx a.place.hop_idx (omega (arith, c.segment_count.ensures)))
+
+pub returns-then-hop_field_count-behind : goal.returns-then-hop_field_count-behind
+returns-then-hop_field_count-behind c =
+    let a = c.args in
+    let n = c.seg_len-count in
+    sym
+    (step_short a.path.now a.place.seg_idx a.place.hop_idx n.result
+    (omega (arith, c.segment_count.ensures)) (sym n.ensures)
+    (omega (arith, c.hop_field_count.ensures)))
+
+pub returns : goal.returns
+returns c =
+    let a = c.args in
+    let n = c.seg_len-count in
+    sym
+    (step_goes a.path.now a.place.seg_idx a.place.hop_idx n.result
+    (omega (arith, c.segment_count.ensures)) (sym n.ensures)
+    (omega (arith, c.hop_field_count.ensures)))
