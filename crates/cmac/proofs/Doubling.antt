@@ -8,7 +8,7 @@ use native.Mathlib.Nat.{add-zero, mul-suc, pow-suc, pow-succ'}
 use native.Mathlib.Numerals.{add-one}
 use native.Mathlib.Omega.{arith}
 use lib.Arith.{digits_lt, digits_mod}
-use lib.Bits.{bit_xor, xor_block}
+use lib.Bits.{bit_xor, xor_block as xor_of_parts}
 use lib.Dec.{eqb, ltb}
 use lib.ListN.{length, get_or, get_or-eq_default}
 use lib.Pow.{pow-add}
@@ -50,7 +50,7 @@ unfolding number
 number_xor f g hf hg zero i = refl
 number_xor f g hf hg (suc n) i =
     rw (number_suc f n i, number_suc g n i, number_suc (λ j. bit_xor (f j) (g j)) n i, number_xor f g hf hg n (suc i), pow_256)
-    (sym (xor_block (8 * n) (f i) (g i) _ _ (rw pow_256 at (number_lt f hf n (suc i))) (rw pow_256 at (number_lt g hg n (suc i)))))
+    (sym (xor_of_parts (8 * n) (f i) (g i) _ _ (rw pow_256 at (number_lt f hf n (suc i))) (rw pow_256 at (number_lt g hg n (suc i)))))
 
 -- g: each byte of f shifted left by one bit, the next byte's top bit put in below
 number_shift : (f g : ℕ → ℕ) → ((i : ℕ) → f i / 128 * 256 + g i ≡ f i * 2 + f (suc i) / 128) → (n i : ℕ)
