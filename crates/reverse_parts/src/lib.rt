@@ -6,7 +6,7 @@
 // Licensed under the Apache License, Version 2.0: see NOTICE.
 #![tactic(auto)]
 
-ghost use Rattle.std.specs.Prelude.{◌≡◌, ◌+◌, ◌*◌, ◌<◌, ◌≤◌};
+ghost use Rattle.std.specs.Prelude.{◌≡◌, ◌+◌, ◌*◌, ◌<◌, ◌≤◌, length};
 ghost use Rattle.reverse_parts.specs.Parts.{set_lengths, swap_lengths, toggle_cons_dirs, reverse_fields};
 ghost use Rattle.reverse_parts.specs.Inner.{swap_fields, reverse_parts_there};
 
@@ -74,7 +74,7 @@ fn toggle_cons_dirs(path: &mut [u8], infos: u8)
 
 // Exchanges two fields that lie apart.
 fn swap_fields(path: &mut [u8], low: usize, high: usize, size: usize)
-    requires* { do ⌜ (low + size ≤ high) × (high + size ≤ (← ⟦path.len()⟧)) ⌝ }
+    requires { (low + size ≤ high) × (high + size ≤ length path.old) }
     ensures { path.new ≡ swap_fields size low high path.old }
 {
     let mut i: usize = 0;
@@ -88,7 +88,7 @@ fn swap_fields(path: &mut [u8], low: usize, high: usize, size: usize)
 
 // Reverses the order of `count` fields, from both ends.
 fn reverse_fields(path: &mut [u8], at: usize, size: usize, count: u8)
-    requires* { do ⌜ at + size * count ≤ (← ⟦path.len()⟧) ⌝ }
+    requires { at + size * count ≤ length path.old }
     ensures { path.new ≡ reverse_fields at size count path.old }
 {
     let mut low = at;
