@@ -12,21 +12,21 @@ pub mod number;
 
 use standard_path::view::HeaderError;
 
-#[derive(Drop)]
+#[derive(Clone, Copy)]
 pub enum LocalAsRoutingAction {
     IngressSCMPHandleRequest { interface_id: u16 },
     EgressSCMPHandleRequest { interface_id: u16 },
     ForwardLocal,
 }
 
-#[derive(Drop)]
+#[derive(Clone, Copy)]
 pub enum AsRoutingAction {
     Local(LocalAsRoutingAction),
     ForwardNextHop { egress_interface_id: u16 },
 }
 
 // Why a path cannot be advanced.
-#[derive(Drop)]
+#[derive(Clone, Copy)]
 pub enum AdvanceError {
     HopOutOfBounds(u8),
     InfoOutOfBounds(u8),
@@ -39,7 +39,7 @@ pub enum AdvanceError {
 }
 
 // The MACs are numbers of 48 bits: an enum holds no array.
-#[derive(Drop)]
+#[derive(Clone, Copy)]
 pub enum StandardRoutingError {
     UnsoundTable,
     HeaderFailed(HeaderError),
@@ -91,14 +91,14 @@ pub enum StandardRoutingError {
 }
 
 // What a list of questions comes to: each was answered yes, or the refusal of the first no.
-#[derive(Drop)]
+#[derive(Clone, Copy)]
 pub enum Validation {
     Valid,
     Invalid(StandardRoutingError),
 }
 
 // The answer of the ingress half.
-#[derive(Drop)]
+#[derive(Clone, Copy)]
 pub enum IngressNextAction {
     ContinueEgress { egress_interface_id: u16 },
     Complete(AsRoutingAction),
@@ -106,7 +106,7 @@ pub enum IngressNextAction {
 }
 
 // The answer of the egress half and of the whole step.
-#[derive(Drop)]
+#[derive(Clone, Copy)]
 pub enum StepAnswer {
     Action(AsRoutingAction),
     Refused(StandardRoutingError),

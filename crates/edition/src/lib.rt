@@ -11,7 +11,7 @@ ghost use Rattle.edition.specs.Edition.{flagged, peering_placed, peering_fits};
 use standard_path::view;
 
 // `First` is the Rust's step: P has no meaning. `Second` has the draft's rule for peering paths.
-#[derive(Drop)]
+#[derive(Clone, Copy)]
 pub enum Edition {
     First,
     Second,

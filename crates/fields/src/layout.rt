@@ -7,7 +7,7 @@
 ghost use Rattle.std.specs.Prelude.{◌≡◌};
 ghost use Rattle.fields.specs.Layout.{info_offset, hop_offset};
 
-#[derive(Drop)]
+#[derive(Clone, Copy)]
 pub struct StdPathMetaLayout;
 
 impl StdPathMetaLayout {
@@ -48,7 +48,7 @@ impl StdPathMetaLayout {
     pub const MAX_TOTAL_HOPS: u8 = 64;
 }
 
-#[derive(Drop)]
+#[derive(Clone, Copy)]
 pub struct InfoFieldLayout;
 
 impl InfoFieldLayout {
@@ -68,7 +68,7 @@ impl InfoFieldLayout {
     }
 }
 
-#[derive(Drop)]
+#[derive(Clone, Copy)]
 pub struct HopFieldLayout;
 
 impl HopFieldLayout {

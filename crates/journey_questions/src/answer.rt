@@ -6,7 +6,7 @@ use standard_path::view;
 use standard_path::view::HeaderError;
 
 // Why a call is refused.
-#[derive(Drop)]
+#[derive(Clone, Copy)]
 pub enum JourneyError {
     HeaderFailed(HeaderError),
     // The itinerary, a table of it, the count of its stations, their arrivals, or the order of the two clock readings.
@@ -15,7 +15,7 @@ pub enum JourneyError {
     AlertSet,
 }
 
-#[derive(Drop)]
+#[derive(Clone, Copy)]
 pub enum Verdict {
     Passed,
     NotPassed,

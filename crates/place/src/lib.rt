@@ -22,7 +22,7 @@ use standard_path::view;
 use standard_path::view::{HeaderCheck, SegmentIndex};
 
 // Where the path stands: whether its hop makes a segment change, and whether it is the path's last.
-#[derive(Drop)]
+#[derive(Clone, Copy)]
 pub enum Located {
     Here { change: bool, last: bool },
     Nowhere(StandardRoutingError),

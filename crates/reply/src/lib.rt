@@ -18,7 +18,7 @@ use standard_path::view::{HeaderCheck, SegmentIndex};
 // 01's number for a refusal, one from 100 on for an action; the values it carries, in 01's order, and how many they are;
 // the SCMP error's type (0 for none), code, and pointer or interface.
 #[repr(C)]
-#[derive(Drop)]
+#[derive(Clone, Copy)]
 pub struct Reply {
     pub number: u16,
     pub count: u16,

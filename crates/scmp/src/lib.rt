@@ -11,7 +11,7 @@ ghost use Rattle.scmp.specs.Scmp.{interface_error, to_scmp_error};
 
 use answers::StandardRoutingError;
 
-#[derive(Drop)]
+#[derive(Clone, Copy)]
 pub enum ScmpError {
     // A malformed path or an unsound table: there is no one to answer.
     NoMessage,

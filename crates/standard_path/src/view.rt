@@ -161,7 +161,7 @@ pub fn curr_hop_field(path: &[u8]) -> &[u8]
 // ---- the header as a whole
 
 // Why a header is turned down: 01's questions 2, 3 and 4.
-#[derive(Drop)]
+#[derive(Clone, Copy)]
 pub enum HeaderError {
     MetaTooShort,
     DataTooShort,
@@ -179,7 +179,7 @@ pub fn header_number(error: HeaderError) -> u8
 }
 
 // Whether the bytes hold the whole header, and it has at most 64 hops.
-#[derive(Drop)]
+#[derive(Clone, Copy)]
 pub enum HeaderCheck {
     Complete,
     Failed(HeaderError),
@@ -202,7 +202,7 @@ pub fn check_header(path: &[u8]) -> HeaderCheck
 }
 
 // The segment that a hop lies in, and whether it is the segment's first hop, and its last.
-#[derive(Drop)]
+#[derive(Clone, Copy)]
 pub enum SegmentIndex {
     At { index: u8, start: bool, end: bool },
     OutOfBounds,

@@ -16,7 +16,7 @@ use answers::{StandardRoutingError, Validation};
 use hop_mac::calculate_hop_mac_with;
 
 // Where a hop is checked: at ingress or at egress, on which interface, when, and whether its MAC is not asked for.
-#[derive(Drop)]
+#[derive(Clone, Copy)]
 pub struct StandardValidator {
     pub ingress: bool,
     pub current_interface_id: u16,
