@@ -16,7 +16,7 @@ use standard_path::view;
 use standard_path::view::{HeaderCheck, HeaderError};
 
 // Why a path is not turned around: 01's answers 2, 3, 4, 20, 21 and 22.
-#[derive(Drop)]
+#[derive(Clone, Copy)]
 pub enum PathReverseError {
     HeaderFailed(HeaderError),
     NoSegments,
@@ -24,7 +24,7 @@ pub enum PathReverseError {
     InfoOutOfBounds,
 }
 
-#[derive(Drop)]
+#[derive(Clone, Copy)]
 pub enum Reversal {
     Reversed,
     Failed(PathReverseError),
