@@ -1,6 +1,8 @@
 // The exported calls, each with its answer written out.
 use crate::print;
 use exports::{calls, editions};
+use std::io;
+use std::io::Write;
 
 // What a call's line says: interface and time, or the earliest and the latest reading, or the index of a hop.
 #[derive(Drop)]
@@ -19,7 +21,14 @@ fn hop(number: u32) -> u8 {
     (number % 256) as u8
 }
 
-fn step(given: Given, ids: &[u16], states: &[u8], key: &[u8; 16], path: &mut [u8]) {
+fn step(
+    output: &mut impl Write,
+    given: Given,
+    ids: &[u16],
+    states: &[u8],
+    key: &[u8; 16],
+    path: &mut [u8],
+) -> io::Result<()> {
     let reply = editions::scion_handle_standard_path_in_edition(
         given.is_second,
         ids,
@@ -32,16 +41,24 @@ fn step(given: Given, ids: &[u16], states: &[u8], key: &[u8; 16], path: &mut [u8
     );
     let values = reply.values;
     print::put_answer(
+        output,
         reply.number,
         reply.count,
         values,
         reply.kind,
         reply.code,
         reply.pointer,
-    );
+    )
 }
 
-fn ingress(given: Given, ids: &[u16], states: &[u8], key: &[u8; 16], path: &mut [u8]) {
+fn ingress(
+    output: &mut impl Write,
+    given: Given,
+    ids: &[u16],
+    states: &[u8],
+    key: &[u8; 16],
+    path: &mut [u8],
+) -> io::Result<()> {
     let reply = editions::scion_standard_path_ingress_in_edition(
         given.is_second,
         ids,
@@ -54,16 +71,24 @@ fn ingress(given: Given, ids: &[u16], states: &[u8], key: &[u8; 16], path: &mut 
     );
     let values = reply.values;
     print::put_answer(
+        output,
         reply.number,
         reply.count,
         values,
         reply.kind,
         reply.code,
         reply.pointer,
-    );
+    )
 }
 
-fn egress(given: Given, ids: &[u16], states: &[u8], key: &[u8; 16], path: &mut [u8]) {
+fn egress(
+    output: &mut impl Write,
+    given: Given,
+    ids: &[u16],
+    states: &[u8],
+    key: &[u8; 16],
+    path: &mut [u8],
+) -> io::Result<()> {
     let reply = editions::scion_standard_path_egress_in_edition(
         given.is_second,
         ids,
@@ -76,55 +101,59 @@ fn egress(given: Given, ids: &[u16], states: &[u8], key: &[u8; 16], path: &mut [
     );
     let values = reply.values;
     print::put_answer(
+        output,
         reply.number,
         reply.count,
         values,
         reply.kind,
         reply.code,
         reply.pointer,
-    );
+    )
 }
 
-fn reverse(path: &mut [u8]) {
+fn reverse(output: &mut impl Write, path: &mut [u8]) -> io::Result<()> {
     let reply = calls::scion_try_reverse(path);
     let values = reply.values;
     print::put_answer(
+        output,
         reply.number,
         reply.count,
         values,
         reply.kind,
         reply.code,
         reply.pointer,
-    );
+    )
 }
 
-fn expiration(path: &[u8]) {
+fn expiration(output: &mut impl Write, path: &[u8]) -> io::Result<()> {
     let reply = calls::scion_expiration(path);
     let values = reply.values;
     print::put_answer(
+        output,
         reply.number,
         reply.count,
         values,
         reply.kind,
         reply.code,
         reply.pointer,
-    );
+    )
 }
 
-fn index(path: &[u8], number: u32) {
+fn index(output: &mut impl Write, path: &[u8], number: u32) -> io::Result<()> {
     let reply = calls::scion_calculate_segment_index(path, hop(number));
     let values = reply.values;
     print::put_answer(
+        output,
         reply.number,
         reply.count,
         values,
         reply.kind,
         reply.code,
         reply.pointer,
-    );
+    )
 }
 
-fn journey(given: Given, itinerary: &[u8], path: &[u8]) {
+fn journey(output: &mut impl Write, given: Given, itinerary: &[u8], path: &[u8]) -> io::Result<()> {
     let reply = editions::scion_check_journey_in_edition(
         given.is_second,
         path,
@@ -134,37 +163,45 @@ fn journey(given: Given, itinerary: &[u8], path: &[u8]) {
     );
     let values = reply.values;
     print::put_answer(
+        output,
         reply.number,
         reply.count,
         values,
         reply.kind,
         reply.code,
         reply.pointer,
-    );
+    )
 }
 
 // The calls that look at an itinerary or at the path alone.
-pub(crate) fn run_other(kind: u8, given: Given, itinerary: &[u8], path: &mut [u8]) {
+pub(crate) fn run_other(
+    output: &mut impl Write,
+    kind: u8,
+    given: Given,
+    itinerary: &[u8],
+    path: &mut [u8],
+) -> io::Result<()> {
     match kind {
-        b'v' => reverse(path),
-        b'p' => expiration(path),
-        b'd' => index(path, given.first),
-        _ => journey(given, itinerary, path),
+        b'v' => reverse(output, path),
+        b'p' => expiration(output, path),
+        b'd' => index(output, path, given.first),
+        _ => journey(output, given, itinerary, path),
     }
 }
 
 // The step and its halves.
 pub(crate) fn run_step(
+    output: &mut impl Write,
     kind: u8,
     given: Given,
     ids: &[u16],
     states: &[u8],
     key: &[u8; 16],
     path: &mut [u8],
-) {
+) -> io::Result<()> {
     match kind {
-        b'e' => step(given, ids, states, key, path),
-        b'g' => ingress(given, ids, states, key, path),
-        _ => egress(given, ids, states, key, path),
+        b'e' => step(output, given, ids, states, key, path),
+        b'g' => ingress(output, given, ids, states, key, path),
+        _ => egress(output, given, ids, states, key, path),
     }
 }

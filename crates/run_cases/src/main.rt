@@ -25,6 +25,8 @@ mod words;
 ghost use Rattle.std.specs.Prelude.{◌≤◌};
 
 use calls::Given;
+use std::io;
+use std::io::{BufReader, BufWriter, Read, Write};
 
 // Where in the memory each of these stands.
 const PATH: u32 = 0;
@@ -40,7 +42,7 @@ const ITINERARY: u32 = 4096;
 const MEMORY: usize = 69664;
 
 // How many bytes of each are in use.
-#[derive(Drop)]
+#[derive(Clone, Copy)]
 struct Sizes {
     path: u32,
     itinerary: u32,
@@ -74,10 +76,8 @@ fn with_size(sizes: Sizes, name: u8, size: u32) -> Sizes {
 }
 
 fn clear(memory: &mut [u8], from: u32, size: u32) {
-    let mut at: u32 = 0;
-    while at < size {
+    for at in 0..size {
         octets::put_byte(memory, (from as usize) + (at as usize), 0);
-        at += 1;
     }
 }
 
@@ -106,20 +106,16 @@ fn put_record(line: &[u8], memory: &mut [u8]) {
 // ---- the calls
 
 fn copy(from: &[u8], place: u32, to: &mut [u8]) {
-    let mut at: usize = 0;
-    while at < to.len() {
-        to[at] = octets::byte_at(from, (place as usize) + at);
-        at += 1;
+    for (at, byte) in to.iter_mut().enumerate() {
+        *byte = octets::byte_at(from, (place as usize) + at);
     }
 }
 
 fn put_ids(memory: &[u8], ids: &mut [u16]) {
-    let mut at: usize = 0;
-    while at < ids.len() {
+    for (at, id) in ids.iter_mut().enumerate() {
         let place = (NUMBERS as usize) + 2 * at;
         let high = octets::byte_at(memory, place);
-        ids[at] = octets::u16_from_be_bytes(high, octets::byte_at(memory, place + 1));
-        at += 1;
+        *id = octets::u16_from_be_bytes(high, octets::byte_at(memory, place + 1));
     }
 }
 
@@ -140,6 +136,7 @@ fn at_most(number: u32, most: usize) -> usize
 }
 
 fn run_step(
+    output: &mut impl Write,
     kind: u8,
     line: &[u8],
     memory: &[u8],
@@ -147,96 +144,148 @@ fn run_step(
     ids: &mut [u16],
     key: &[u8; 16],
     path: &mut [u8],
-) {
+) -> io::Result<()> {
     if memory.len() != MEMORY {
-        return;
+        return Ok(());
     }
     put_ids(memory, ids);
     let count = at_most(sizes.numbers / 2, ids.len());
     let states = at_most(sizes.states, 512);
     calls::run_step(
+        output,
         kind,
         given(line),
         &ids[0..count],
         &memory[2048..2048 + states],
         key,
         path,
-    );
+    )
 }
 
-fn run_with_table(kind: u8, line: &[u8], memory: &[u8], sizes: Sizes, path: &mut [u8]) {
+fn run_with_table(
+    output: &mut impl Write,
+    kind: u8,
+    line: &[u8],
+    memory: &[u8],
+    sizes: Sizes,
+    path: &mut [u8],
+) -> io::Result<()> {
     let mut key = [0u8; 16];
     copy(memory, KEY, &mut key);
-    run_step(kind, line, memory, sizes, &mut [0u16; 512], &key, path);
+    run_step(
+        output,
+        kind,
+        line,
+        memory,
+        sizes,
+        &mut [0u16; 512],
+        &key,
+        path,
+    )
 }
 
-fn run_other(kind: u8, line: &[u8], memory: &[u8], sizes: Sizes, path: &mut [u8]) {
+fn run_other(
+    output: &mut impl Write,
+    kind: u8,
+    line: &[u8],
+    memory: &[u8],
+    sizes: Sizes,
+    path: &mut [u8],
+) -> io::Result<()> {
     if memory.len() != MEMORY {
-        return;
+        return Ok(());
     }
     let itinerary = at_most(sizes.itinerary, 65568);
-    calls::run_other(kind, given(line), &memory[4096..4096 + itinerary], path);
+    calls::run_other(
+        output,
+        kind,
+        given(line),
+        &memory[4096..4096 + itinerary],
+        path,
+    )
 }
 
 // A call is told by its name's third letter.
-fn run_kind(line: &[u8], memory: &[u8], sizes: Sizes, path: &mut [u8]) {
+fn run_kind(
+    output: &mut impl Write,
+    line: &[u8],
+    memory: &[u8],
+    sizes: Sizes,
+    path: &mut [u8],
+) -> io::Result<()> {
     let kind = octets::byte_at(line, words::start(line, 1) + 2);
     match kind {
-        b'e' | b'g' | b'r' => run_with_table(kind, line, memory, sizes, path),
-        _ => run_other(kind, line, memory, sizes, path),
+        b'e' | b'g' | b'r' => run_with_table(output, kind, line, memory, sizes, path),
+        _ => run_other(output, kind, line, memory, sizes, path),
     }
 }
 
 // Behind the path the copy stays as the memory is.
-fn run_on_copy(line: &[u8], memory: &[u8], sizes: Sizes, path: &mut [u8]) {
+fn run_on_copy(
+    output: &mut impl Write,
+    line: &[u8],
+    memory: &[u8],
+    sizes: Sizes,
+    path: &mut [u8],
+) -> io::Result<()> {
     copy(memory, PATH, path);
     let size = at_most(sizes.path, path.len());
-    run_kind(line, memory, sizes, &mut path[0..size]);
-    print::put_left(memory, path);
+    run_kind(output, line, memory, sizes, &mut path[0..size])?;
+    print::put_left(output, memory, path)
 }
 
-fn run_call(line: &[u8], memory: &[u8], sizes: Sizes) {
+fn run_call(output: &mut impl Write, line: &[u8], memory: &[u8], sizes: Sizes) -> io::Result<()> {
     let start = words::start(line, 1);
-    print::put(&line[start..]);
-    print::put(b":");
-    run_on_copy(line, memory, sizes, &mut [0u8; 1024]);
+    print::put(output, &line[start..])?;
+    print::put(output, b":")?;
+    run_on_copy(output, line, memory, sizes, &mut [0u8; 1024])
 }
 
 // ---- the script
 
-fn run_line(line: &[u8], memory: &mut [u8], sizes: Sizes) -> Sizes {
+fn run_line(
+    output: &mut impl Write,
+    line: &[u8],
+    memory: &mut [u8],
+    sizes: Sizes,
+) -> io::Result<Sizes> {
     let name = octets::byte_at(line, 0);
     match name {
         b'#' => {}
-        b'c' => run_call(line, memory, sizes),
+        b'c' => run_call(output, line, memory, sizes)?,
         b'e' => edit(line, memory),
         b'r' => put_record(line, memory),
-        _ => return fill(line, name, memory, sizes),
+        _ => return Ok(fill(line, name, memory, sizes)),
     }
-    sizes
+    Ok(sizes)
 }
 
-// At an empty line, or where stdin ends, it's over.
-fn run(line: &mut [u8], memory: &mut [u8]) {
+// At an empty line, or where the input ends, it's over.
+fn run(
+    input: &mut impl Read,
+    output: &mut impl Write,
+    line: &mut [u8],
+    memory: &mut [u8],
+) -> io::Result<()> {
     let mut sizes = Sizes {
         path: 0,
         itinerary: 0,
         numbers: 0,
         states: 0,
     };
-    let mut count: u32 = 0;
-    while count < 1000000 {
-        let size = words::read_line(line);
+    for _ in 0..1000000 {
+        let size = words::read_line(input, line)?;
         if size == 0 {
-            return;
+            return Ok(());
         }
-        let after = run_line(&line[0..size], memory, sizes);
-        sizes = after;
-        count += 1;
+        sizes = run_line(output, &line[0..size], memory, sizes)?;
     }
+    Ok(())
 }
 
-fn main() {
-    let mut line = io::buffer();
-    run(&mut line, &mut [0u8; 69664]);
+fn main(rt: HostRuntime) -> io::Result<()> {
+    let mut input = BufReader::new(rt.alloc(), rt.reader())?;
+    let mut output = BufWriter::new(rt.alloc(), io::writer(&rt))?;
+    run(&mut input, &mut output, &mut [0u8; 4096], &mut [0u8; 69664])?;
+    output.flush()
 }

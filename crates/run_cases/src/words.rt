@@ -1,33 +1,32 @@
 // The lines of a script, and the words of a line, which single spaces set apart: numbers in decimal, bytes in hex.
-ghost use Rattle.std.specs.Prelude.{◌≤◌, length};
+ghost use Rattle.std.specs.Prelude.{◌≤◌, length, IfOk};
 
-use libc::STDIN_FILENO;
 use octets::byte_at;
+use std::io;
+use std::io::Read;
 
-// A line's end where stdin is at its own.
-fn read_byte() -> u8 {
+// A line's end where the input is at its own.
+fn read_byte(input: &mut impl Read) -> io::Result<u8> {
     let mut byte = [0u8; 1];
-    let count = io::read_full(STDIN_FILENO, &mut byte);
+    let count = input.read(&mut byte)?;
     if count == 0 {
-        return b'\n';
+        return Ok(b'\n');
     }
-    byte[0]
+    Ok(byte[0])
 }
 
 // Reads a line, as much of it as there is room for, without its end; how many bytes it has.
-pub(crate) fn read_line(line: &mut [u8]) -> usize
-    ensures { result ≤ length line.new }
+pub(crate) fn read_line(input: &mut impl Read, line: &mut [u8]) -> io::Result<usize>
+    ensures { IfOk result (λ size. size ≤ length line.new) }
 {
-    let mut at: usize = 0;
-    while at < line.len() {
-        let byte = read_byte();
+    for at in 0..line.len() {
+        let byte = read_byte(input)?;
         if byte == b'\n' {
-            return at;
+            return Ok(at);
         }
         line[at] = byte;
-        at += 1;
     }
-    at
+    Ok(line.len())
 }
 
 // Where the word with this index starts, or the line's end.
@@ -35,17 +34,15 @@ pub(crate) fn start(line: &[u8], index: u8) -> usize
     ensures { result ≤ length line.now }
 {
     let mut spaces = index;
-    let mut at: usize = 0;
-    while at < line.len() {
+    for (at, byte) in line.iter().enumerate() {
         if spaces == 0 {
             return at;
         }
-        if line[at] == b' ' {
+        if *byte == b' ' {
             spaces -= 1;
         }
-        at += 1;
     }
-    at
+    line.len()
 }
 
 // What a hex digit stands for, 16 if it's none.
@@ -64,14 +61,12 @@ fn with_digit(number: u32, value: u8) -> u32 {
 // The number that a word spells.
 pub(crate) fn number(line: &[u8], index: u8) -> u32 {
     let mut number: u32 = 0;
-    let mut at = start(line, index);
-    while at < line.len() {
-        let value = hex_value(line[at]);
+    for digit in &line[start(line, index)..] {
+        let value = hex_value(*digit);
         if 10 <= value {
             return number;
         }
         number = with_digit(number, value);
-        at += 1;
     }
     number
 }
@@ -85,10 +80,8 @@ fn put_digit(memory: &mut [u8], place: usize, value: u8) {
 // Puts the bytes that are spelled from a word on into the memory.
 pub(crate) fn put_bytes(line: &[u8], index: u8, memory: &mut [u8], place: u32) {
     let mut digits: usize = 0;
-    let mut at = start(line, index);
-    while at < line.len() {
-        let value = hex_value(line[at]);
-        at += 1;
+    for digit in &line[start(line, index)..] {
+        let value = hex_value(*digit);
         if value < 16 {
             put_digit(memory, (place as usize) + digits / 2, value);
             digits += 1;

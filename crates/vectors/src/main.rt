@@ -1,7 +1,7 @@
 // Known answers of FIPS 197 and RFC 4493, and hop MACs that Python worked out, each on a line.
 #![tactic(auto)]
 
-use libc::STDOUT_FILENO;
+use std::io;
 
 // The key of FIPS 197, appendices A.1 and B, and of RFC 4493, section 4.
 const KEY: [u8; 16] = *b"\x2b\x7e\x15\x16\x28\xae\xd2\xa6\xab\xf7\x15\x88\x09\xcf\x4f\x3c";
@@ -21,24 +21,18 @@ const MESSAGE: [u8; 64] = *b"\
 \x30\xc8\x1c\x46\xa3\x5c\xe4\x11\xe5\xfb\xc1\x19\x1a\x0a\x52\xef\
 \xf6\x9f\x24\x45\xdf\x4f\x9b\x17\xad\x2b\x41\x7b\xe6\x6c\x37\x10";
 
-fn widened(x: u8) -> u64 {
-    x as u64
-}
-
-fn put_hex(value: &[u8]) {
-    let mut i = 0;
-    while i < value.len() {
-        io::print_hex(STDOUT_FILENO, widened(value[i]), 2);
-        i += 1;
+fn put_hex(rt: &impl Print, value: &[u8]) -> io::Result<()> {
+    for byte in value {
+        print!(rt; "{byte:02x}")?;
     }
+    Ok(())
 }
 
 // Writes a line: the label, and the value in hex.
-fn put(label: &[u8], value: &[u8]) {
-    io::write_all(STDOUT_FILENO, label);
-    io::write_all(STDOUT_FILENO, b" ");
-    put_hex(value);
-    io::write_all(STDOUT_FILENO, b"\n");
+fn put(rt: &impl Print, label: &str, value: &[u8]) -> io::Result<()> {
+    print!(rt; "{label} ")?;
+    put_hex(rt, value)?;
+    println!(rt; "")
 }
 
 fn last_round_key(key: [u8; 16]) -> [u8; 16] {
@@ -46,43 +40,48 @@ fn last_round_key(key: [u8; 16]) -> [u8; 16] {
     round_keys[10]
 }
 
-fn put_cipher(label: &[u8], key: [u8; 16], input: [u8; 16]) {
-    put(label, &aes::encrypt_block(aes_keys::expand_key(key), input));
+fn put_cipher(rt: &impl Print, label: &str, key: [u8; 16], input: [u8; 16]) -> io::Result<()> {
+    put(
+        rt,
+        label,
+        &aes::encrypt_block(aes_keys::expand_key(key), input),
+    )
 }
 
-fn put_fips_197() {
-    put(b"FIPS 197 A.1 last round key", &last_round_key(KEY));
-    put_cipher(b"FIPS 197 B cipher", KEY, INPUT_B);
-    put_cipher(b"FIPS 197 C.1 cipher", KEY_C, INPUT_C);
+fn put_fips_197(rt: &impl Print) -> io::Result<()> {
+    put(rt, "FIPS 197 A.1 last round key", &last_round_key(KEY))?;
+    put_cipher(rt, "FIPS 197 B cipher", KEY, INPUT_B)?;
+    put_cipher(rt, "FIPS 197 C.1 cipher", KEY_C, INPUT_C)
 }
 
-fn put_mac(label: &[u8], message: &[u8]) {
-    put(label, &cmac::aes_cmac(KEY, message));
+fn put_mac(rt: &impl Print, label: &str, message: &[u8]) -> io::Result<()> {
+    put(rt, label, &cmac::aes_cmac(KEY, message))
 }
 
-fn put_rfc_4493() {
-    put_cipher(b"RFC 4493 AES-128(key,0)", KEY, [0u8; 16]);
+fn put_rfc_4493(rt: &impl Print) -> io::Result<()> {
+    put_cipher(rt, "RFC 4493 AES-128(key,0)", KEY, [0u8; 16])?;
     let table = aes::round_table();
     let k1 = cmac::subkey_with(&table, aes_keys::expand_key(KEY));
-    put(b"RFC 4493 K1", &k1);
-    put(b"RFC 4493 K2", &cmac::double(k1));
+    put(rt, "RFC 4493 K1", &k1)?;
+    put(rt, "RFC 4493 K2", &cmac::double(k1))?;
     let message = MESSAGE;
-    put_mac(b"RFC 4493 MAC of 0 bytes", &message[..0]);
-    put_mac(b"RFC 4493 MAC of 16 bytes", &message[..16]);
-    put_mac(b"RFC 4493 MAC of 40 bytes", &message[..40]);
-    put_mac(b"RFC 4493 MAC of 64 bytes", &message);
+    put_mac(rt, "RFC 4493 MAC of 0 bytes", &message[..0])?;
+    put_mac(rt, "RFC 4493 MAC of 16 bytes", &message[..16])?;
+    put_mac(rt, "RFC 4493 MAC of 40 bytes", &message[..40])?;
+    put_mac(rt, "RFC 4493 MAC of 64 bytes", &message)
 }
 
 // A hop MAC by both ways, a line for each.
 fn put_hop_mac(
-    label: &[u8],
+    rt: &impl Print,
+    label: &str,
     key: [u8; 16],
     segment_id: u16,
     timestamp: u32,
     exp_time: u8,
     cons_ingress: u16,
     cons_egress: u16,
-) {
+) -> io::Result<()> {
     let from_key = hop_mac::calculate_hop_mac(
         segment_id,
         timestamp,
@@ -91,7 +90,7 @@ fn put_hop_mac(
         cons_egress,
         key,
     );
-    put(label, &from_key);
+    put(rt, label, &from_key)?;
     let table = aes::round_table();
     let round_keys = aes_keys::expand_key(key);
     let from_schedule = hop_mac::calculate_hop_mac_with(
@@ -104,55 +103,57 @@ fn put_hop_mac(
         cons_ingress,
         cons_egress,
     );
-    io::write_all(STDOUT_FILENO, label);
-    put(b" with schedule", &from_schedule);
+    print!(rt; "{label}")?;
+    put(rt, " with schedule", &from_schedule)
 }
 
 // The answers were worked out by hop_macs.py, with the CMAC of Python's package `cryptography`.
-fn put_hop_macs() {
-    put_hop_mac(b"hop MAC of all zeros", [0u8; 16], 0, 0, 0, 0, 0);
+fn put_hop_macs(rt: &impl Print) -> io::Result<()> {
+    put_hop_mac(rt, "hop MAC of all zeros", [0u8; 16], 0, 0, 0, 0, 0)?;
     put_hop_mac(
-        b"hop MAC of all ones",
+        rt,
+        "hop MAC of all ones",
         [0xff; 16],
         0xffff,
         0xffff_ffff,
         0xff,
         0xffff,
         0xffff,
-    );
-    put_hop_mac(b"hop MAC of a SegID", KEY, 0x1234, 0, 0, 0, 0);
-    put_hop_mac(b"hop MAC of a timestamp", KEY, 0, 0x1234_5678, 0, 0, 0);
-    put_hop_mac(b"hop MAC of an ExpTime", KEY, 0, 0, 0x12, 0, 0);
-    put_hop_mac(b"hop MAC of a ConsIngress", KEY, 0, 0, 0, 0x1234, 0);
-    put_hop_mac(b"hop MAC of a ConsEgress", KEY, 0, 0, 0, 0, 0x1234);
+    )?;
+    put_hop_mac(rt, "hop MAC of a SegID", KEY, 0x1234, 0, 0, 0, 0)?;
+    put_hop_mac(rt, "hop MAC of a timestamp", KEY, 0, 0x1234_5678, 0, 0, 0)?;
+    put_hop_mac(rt, "hop MAC of an ExpTime", KEY, 0, 0, 0x12, 0, 0)?;
+    put_hop_mac(rt, "hop MAC of a ConsIngress", KEY, 0, 0, 0, 0x1234, 0)?;
+    put_hop_mac(rt, "hop MAC of a ConsEgress", KEY, 0, 0, 0, 0, 0x1234)?;
     put_hop_mac(
-        b"hop MAC of every field",
+        rt,
+        "hop MAC of every field",
         KEY_C,
         0x8a5f,
         1_700_000_000,
         63,
         41,
         258,
-    );
+    )
 }
 
 // Writes a line: what the accumulator 1234 becomes after a hop MAC.
-fn put_beta_step(hop_mac: [u8; 6]) {
-    io::write_all(STDOUT_FILENO, b"SegID 1234 after MAC ");
-    put_hex(&hop_mac);
+fn put_beta_step(rt: &impl Print, hop_mac: [u8; 6]) -> io::Result<()> {
+    print!(rt; "SegID 1234 after MAC ")?;
+    put_hex(rt, &hop_mac)?;
     let next = hop_mac::mac_beta_step(0x1234, hop_mac);
-    put(b"", &[(next / 0x100) as u8, (next % 0x100) as u8]);
+    put(rt, "", &[(next / 0x100) as u8, (next % 0x100) as u8])
 }
 
-fn put_beta_steps() {
-    put_beta_step(*b"\xab\xcd\x01\x02\x03\x04");
-    put_beta_step([0u8; 6]);
-    put_beta_step([0xff; 6]);
+fn put_beta_steps(rt: &impl Print) -> io::Result<()> {
+    put_beta_step(rt, *b"\xab\xcd\x01\x02\x03\x04")?;
+    put_beta_step(rt, [0u8; 6])?;
+    put_beta_step(rt, [0xff; 6])
 }
 
-fn main() {
-    put_fips_197();
-    put_rfc_4493();
-    put_hop_macs();
-    put_beta_steps();
+fn main(rt: HostRuntime) -> io::Result<()> {
+    put_fips_197(&rt)?;
+    put_rfc_4493(&rt)?;
+    put_hop_macs(&rt)?;
+    put_beta_steps(&rt)
 }
