@@ -1,0 +1,14 @@
+use Rattle.records.specs.Layout.{layout_of}
+use Rattle.itinerary.proofs.Bound.{fits_asked}
+use Rattle.itinerary.proofs.fits.Goals as goal
+
+pub returns : goal.returns
+returns c =
+    let args = c.args in
+    rw (
+      ← fits_asked (layout_of args.form) args.itinerary.now args.wanted,
+      ← c.is_sound_within.ensures,
+      ← c.are_tables_sound.ensures,
+      ← c.arrivals_fit.ensures,
+      ← c.station_count.ensures,
+    )
