@@ -5,14 +5,16 @@ use mathlib.Core.Bool.{Bool, true, false, cond}
 use mathlib.Core.List.{List, [], ◌∷◌, map}
 use Prim.Native.Nat.{ℕ, suc, ◌+◌, ◌*◌, ◌-◌, ◌≤◌, ◌<◌, min}
 use native.Mathlib.Omega.{arith}
+use lib.Dec.{ltb, leb}
+use borrow.Author.Tests.{leb-false}
 use lib.ListN.{length, get_or, drop}
 use lib.Seq.{get_or-take, get_or-drop}
 use denote.Ref.{Bor}
 use Rattle.octets.specs.Bytes.{tabulate}
 use Rattle.fields.specs.Fields.{timestamp, exp_time, expiry}
 use Rattle.fields.specs.Layout.{hop_offset}
-use Rattle.standard_path.specs.Header.{infos, info_field, hop_field, header_check}
-use Rattle.segments.specs.Segments.{hop_fields, PathSegment, segments, is_end, started, step_of, advanced}
+use Rattle.standard_path.specs.Header.{infos, hops, info_field, hop_field, header_check}
+use Rattle.segments.specs.Segments.{hop_fields, PathSegment, segments, segment_count, seg_len, next_segment, is_end, started, step_of, advanced}
 use Rattle.expiration.specs.Expiration.{least, hop_expiry, segment_expiry, path_expiry, expiration}
 use Rattle.expiration.specs.Inner.{step_expiry}
 use Rattle.segments.specs.declared.SegmentIterator.{SegmentIterator}
@@ -144,6 +146,41 @@ ahead_all lent = record {
   walk = walk_segments lent;
   left = left_all _;
 }
+
+-- the walk of the code's loop, at its iterator and its time
+pub record Along (path : List ℕ) (at : SegmentIterator) (so_far : ℕ) : Type 0 where
+  pub ahead : Ahead at.path
+  pub here : ahead.at ≡ at
+  pub time : ahead.so_far ≡ so_far
+  pub same : at.path.now ≡ path
+
+pub along_all : (lent : Bor (List ℕ)) → Along lent.now (started lent) 4294967295
+along_all lent = record { ahead = ahead_all lent; here = refl; time = refl; same = refl }
+
+pub along_further : {path : List ℕ} {at : SegmentIterator} {so_far after : ℕ} {step : SegmentStep} → Along path at so_far → step ≡ step_of at
+    → is_end step ≡ false → after ≡ min so_far (step_expiry path step) → Along path (advanced at) after
+along_further {step = step} a e more f =
+    let on = further a.ahead {step = step} (e ∙ ap step_of (sym a.here)) more (rw (a.time, a.same) f) in
+    record { ahead = on_from a.ahead on; here = ap advanced a.here; time = refl; same = a.same }
+
+pub along_none : {path : List ℕ} {at : SegmentIterator} {so_far : ℕ} {step : SegmentStep} → Along path at so_far → step ≡ step_of at
+    → is_end step ≡ true → so_far ≡ least (map (segment_expiry path) (segments path))
+along_none {step = step} a e end =
+    let all = ahead_none a.ahead {step = step} (e ∙ ap step_of (sym a.here)) end in
+    sym a.time ∙ (rw a.same at all)
+
+-- a step that is no end leaves fewer segments
+pub nearer : (at : SegmentIterator) → is_end (step_of at) ≡ false
+    → segment_count at.path.now - (advanced at).place.seg_idx < segment_count at.path.now - at.place.seg_idx
+unfolding next_segment
+nearer at more = go _ _ refl refl
+  where
+    go : (b d : Bool) → leb (segment_count at.path.now) at.place.seg_idx ≡ b
+        → ltb (hops at.path.now) (at.place.hop_idx + seg_len at.path.now at.place.seg_idx) ≡ d
+        → segment_count at.path.now - (advanced at).place.seg_idx < segment_count at.path.now - at.place.seg_idx
+    go true d p q = absurd (no_true (rw p at more))
+    go false true p q = absurd (no_true (rw (p, q) at more))
+    go false false p q = let left = leb-false _ _ p in rw (p, q) (omega (arith, left))
 
 -- ---- the call, by what 2, 3 and 4 come to
 

@@ -90,7 +90,7 @@ fn path_expiry(path: &[u8]) -> u32
 }
 
 // When the path ends, in seconds of Unix time; or the first of 01's questions 2, 3 and 4 that is answered no.
-#[derive(Drop)]
+#[derive(Clone, Copy)]
 pub enum PathExpiration {
     At(u32),
     Refused(HeaderError),
