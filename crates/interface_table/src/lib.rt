@@ -15,7 +15,7 @@ pub const MAX_ENTRIES: usize = 256;
 // ---- the table
 
 // What a table has for an interface number.
-#[derive(Drop)]
+#[derive(Clone, Copy)]
 pub enum Listed {
     State(u8),
     Nothing,

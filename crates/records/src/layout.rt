@@ -1,6 +1,6 @@
 // Sizes and offsets of an itinerary's records in the narrow form, in bytes.
 // Any record.
-#[derive(Drop)]
+#[derive(Clone, Copy)]
 pub struct RecordLayout;
 
 impl RecordLayout {
@@ -12,7 +12,7 @@ impl RecordLayout {
 }
 
 // Record 0.
-#[derive(Drop)]
+#[derive(Clone, Copy)]
 pub struct HeadLayout;
 
 impl HeadLayout {
@@ -21,7 +21,7 @@ impl HeadLayout {
     pub const ZEROS_BYTES: u8 = 30;
 }
 
-#[derive(Drop)]
+#[derive(Clone, Copy)]
 pub struct StationLayout;
 
 impl StationLayout {
@@ -40,7 +40,7 @@ impl StationLayout {
     pub const LAST_ZEROS_BYTES: u8 = 8;
 }
 
-#[derive(Drop)]
+#[derive(Clone, Copy)]
 pub struct InterfaceRecordLayout;
 
 impl InterfaceRecordLayout {

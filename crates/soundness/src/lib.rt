@@ -16,7 +16,7 @@ use records::form::Form;
 // ---- the records of a table
 
 // A place in the chain of stations: the record, and how many may still be looked at.
-#[derive(Drop)]
+#[derive(Clone, Copy)]
 struct StationPlace {
     pub station: u32,
     pub left: u32,
