@@ -9,7 +9,7 @@ use Rattle.validator.specs.Check.{key_mac}
 use Rattle.validator.proofs.Schedule.{schedule_law}
 use Rattle.records.specs.Layout.{Layout}
 use Rattle.records.specs.Records.{key_of}
-use Rattle.station.specs.Station.{Station, station_with, station_at}
+use Rattle.station.specs.Station.{station_with, station_at}
 use Rattle.hop_check.specs.Hop.{hop_fits}
 use Rattle.hop_check.specs.Inner.{key_mac_by}
 

@@ -1,0 +1,17 @@
+use Rattle.hop_check.specs.Hop.{hop_fits}
+use Rattle.hop_check.proofs.hop_fits.Goals as goal
+
+pub returns : goal.returns
+unfolding hop_fits
+returns c =
+    let key = c.key-key in
+    let expiry-timestamp = c.expiry_timestamp in
+    let mac-fits = c.mac_fits in
+    let arrives-by = c.arrives_by in
+    rw (
+      ← key.ensures,
+      ← expiry-timestamp.ensures,
+      ← mac-fits.ensures,
+      ← arrives-by.ensures,
+      ← c.leaves_by.ensures,
+    )
