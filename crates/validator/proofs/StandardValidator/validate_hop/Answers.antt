@@ -1,19 +1,19 @@
 use mathlib.Core.Path.{sym, ap, ◌∙◌}
-use borrow.Author.Tests.{le-leb, lt-leb, not-true, not-false}
+use borrow.Author.Tests.{le-leb, lt-leb}
 use Rattle.questions.specs.Questions.{asks}
 use Rattle.answers.specs.declared.Validation.TheVariants.{Invalid}
 use Rattle.validator.proofs.StandardValidator.validate_hop.Goals as goal
 
 pub returns-then-not-interface_fits : goal.returns-then-not-interface_fits
 unfolding asks
-returns-then-not-interface_fits c = rw (sym c.interface_fits.ensures ∙ not-true _ c.if-not-interface_fits.true-raw) (ap Invalid c.wrong_interface.ensures)
+returns-then-not-interface_fits c = rw (sym c.interface_fits.ensures ∙ c.if-not-interface_fits.true) (ap Invalid c.wrong_interface.ensures)
 
 pub returns-then-self-timestamp : goal.returns-then-self-timestamp
 unfolding asks
 returns-then-self-timestamp c =
     let interface-fits = c.interface_fits in
     let if1 = c.if-not-interface_fits in
-    rw (sym interface-fits.ensures ∙ not-false _ if1.false-raw, lt-leb _ _ (rw c.timestamp.ensures at c.if-self-timestamp.true))
+    rw (sym interface-fits.ensures ∙ if1.false, lt-leb _ _ (rw c.timestamp.ensures at c.if-self-timestamp.true))
 
 pub returns-then-expiry_timestamp-self : goal.returns-then-expiry_timestamp-self
 unfolding asks
@@ -22,7 +22,7 @@ returns-then-expiry_timestamp-self c =
     let if1 = c.if-not-interface_fits in
     let timestamp = c.timestamp in
     let if2 = c.if-self-timestamp in
-    rw (sym interface-fits.ensures ∙ not-false _ if1.false-raw, le-leb _ _ (rw timestamp.ensures at if2.false), lt-leb _ _ (rw c.expiry_timestamp.ensures at c.if-expiry_timestamp-self.true))
+    rw (sym interface-fits.ensures ∙ if1.false, le-leb _ _ (rw timestamp.ensures at if2.false), lt-leb _ _ (rw c.expiry_timestamp.ensures at c.if-expiry_timestamp-self.true))
 
 pub returns : goal.returns
 unfolding asks
@@ -31,4 +31,4 @@ returns c =
     let if1 = c.if-not-interface_fits in
     let timestamp = c.timestamp in
     let if2 = c.if-self-timestamp in
-    rw (sym interface-fits.ensures ∙ not-false _ if1.false-raw, le-leb _ _ (rw timestamp.ensures at if2.false), le-leb _ _ (rw c.expiry_timestamp.ensures at c.if-expiry_timestamp-self.false))
+    rw (sym interface-fits.ensures ∙ if1.false, le-leb _ _ (rw timestamp.ensures at if2.false), le-leb _ _ (rw c.expiry_timestamp.ensures at c.if-expiry_timestamp-self.false))
