@@ -1,17 +1,17 @@
 -- The moves with place and direction lent, at the place where the current hop field starts and in its segment's direction.
 -- Assumes nothing.
-use mathlib.Core.Path.{◌≡◌, refl, ap}
+use mathlib.Core.Path.{◌≡◌, refl}
 use mathlib.Core.Bool.{Bool, true, false, not, ◌&&◌, cond}
 use mathlib.Core.List.{List}
-use Prim.Native.Nat.{ℕ, ◌+◌}
+use Prim.Native.Nat.{ℕ}
 use lib.Dec.{eqb}
 use Rattle.fields.specs.Fields.{cons_dir}
-use Rattle.standard_path.specs.Meta.{curr_inf, curr_hf, set_curr_inf, set_curr_hf}
+use Rattle.standard_path.specs.Meta.{curr_hf}
 use Rattle.standard_path.specs.Header.{hop_field}
 use Rattle.edition.specs.declared.Edition.{Edition}
-use Rattle.place.specs.Place.{info, crosses}
+use Rattle.place.specs.Place.{info}
 use Rattle.writes.specs.Writes.{flags_at, alert_cleared_at}
-use Rattle.moves.specs.Moves.{stepped, takes_step, ingress_fields, ingress_move, egress_ahead, egress_move}
+use Rattle.moves.specs.Moves.{stepped, takes_step, ingress_fields, ingress_move, egress_move}
 use Rattle.moves.specs.Inner.{stepped_at, fields_at, ingress_move_at, indices_at, egress_move_at}
 use Rattle.moves.proofs.Touched.{touched, cleared_there}
 
