@@ -4,21 +4,23 @@ use Rattle.checks.proofs.validate_next.Goals as goal
 
 pub returns-in_default : goal.returns-in_default
 returns-in_default c =
-    let curr-hop-field-idx = c.curr_hop_field_idx-hop_index in
-    let next-hop-field = c.next_hop_field-next_hop in
-    let next-info-field = c.next_info_field-next_info in
-    let curr-hop-field = c.curr_hop_field in
-    let curr-info-field = c.curr_info_field in
-    let no = sym (rw (curr-hop-field-idx.ensures, curr-hop-field.ensures, curr-info-field.ensures, next-hop-field.ensures, next-info-field.ensures) at c.validate_segment_change-change.ensures) ∙ c.enum_told-in_default-1.given.1 in
-    c.enum_told-in_default-1.given.1 ∙ sym (stops _ _ _ no)
+    let asked = rw (
+      c.curr_hop_field_idx-hop_index.ensures,
+      c.curr_hop_field.ensures,
+      c.curr_info_field.ensures,
+      c.next_hop_field-next_hop.ensures,
+      c.next_info_field-next_info.ensures,
+    ) at c.validate_segment_change-change.ensures in
+    c.in_default.is ∙ sym (stops _ _ _ (sym asked ∙ c.in_default.is))
 
 pub returns : goal.returns
 returns c =
-    let curr-hop-field-idx = c.curr_hop_field_idx-hop_index in
-    let next-hop-field = c.next_hop_field-next_hop in
-    let next-info-field = c.next_info_field-next_info in
-    let curr-hop-field = c.curr_hop_field in
-    let curr-info-field = c.curr_info_field in
-    let validate-segment-change = c.validate_segment_change-change in
-    let yes = sym (rw (curr-hop-field-idx.ensures, curr-hop-field.ensures, curr-info-field.ensures, next-hop-field.ensures, next-info-field.ensures) at validate-segment-change.ensures) ∙ c.enum_told-1.given.1 in
-    rw (curr-hop-field-idx.ensures, next-hop-field.ensures, next-info-field.ensures) at c.validate_hop.ensures ∙ sym (goes_on_lem _ _ yes)
+    let asked = rw (
+      c.curr_hop_field_idx-hop_index.ensures,
+      c.curr_hop_field.ensures,
+      c.curr_info_field.ensures,
+      c.next_hop_field-next_hop.ensures,
+      c.next_info_field-next_info.ensures,
+    ) at c.validate_segment_change-change.ensures in
+    rw (c.curr_hop_field_idx-hop_index.ensures, c.next_hop_field-next_hop.ensures, c.next_info_field-next_info.ensures) at c.validate_hop.ensures
+    ∙ sym (goes_on_lem _ _ (sym asked ∙ c.in-Valid.is))
