@@ -1,6 +1,6 @@
 -- 01, 'Questions in order' and 'standard/routing.rs': the egress half, its answer and every byte that it leaves.
 -- Assumes nothing.
-use Rattle.std.specs.Prelude.{ℕ, Bool, not, ◌&&◌, cond, List, eqb}
+use Rattle.std.specs.Prelude.{ℕ, not, ◌&&◌, cond, List, eqb}
 use Rattle.fields.specs.Fields.{cons_dir, travel_egress, travel_egress_alert}
 use Rattle.questions.specs.Questions.{asks}
 use Rattle.validator.specs.Check.{MacFunction}
