@@ -95,12 +95,12 @@ end_after() {
 
 archive=target/staticlib/libexports.a
 
-# What the archive was made of and what it is, as one sum.
+# What the archive was made of and what it is, as one sum. In out/ rt keeps files of its own.
 archive_sum() {
     {
         rt version
         cat crates.txt
-        find crates -type f \( -name '*.rt' -o -name '*.antt' \) -exec sha256sum {} + | LC_ALL=C sort
+        find crates -name out -prune -o -type f \( -name '*.rt' -o -name '*.antt' \) -exec sha256sum {} + | LC_ALL=C sort
         sha256sum "$archive"
     } | sha256sum
 }
@@ -110,10 +110,12 @@ is_archive_made() {
     [ -f "$archive" ] && [ -f "$archive.sum" ] && [ "$(archive_sum)" = "$(cat "$archive.sum")" ]
 }
 
-# Makes it, where it is not there or of other files. What has not changed is not proved again.
+# Makes it, where it is not there or of other files: the static library of the crate exports_c, under the name that C callers know.
+# What has not changed is not proved again. Where no processor is named, rt takes a newer one than the first of x86-64.
 make_archive() {
     if is_archive_made; then return; fi
     rm -f "$archive.sum"
-    bounded 0 rt staticlib exports || return
+    bounded 0 sh -c 'cd crates/exports_c && exec rt lib --cpu x86-64' || return
+    mkdir -p "${archive%/*}" && cp crates/exports_c/out/libexports_c.a "$archive.new" && mv "$archive.new" "$archive" || return
     archive_sum >"$archive.sum"
 }

@@ -1,17 +1,21 @@
 //! Links the archive of the proved functions as the library `scion_step`. It is `target/staticlib/libexports.a` at the
-//! root of the repository, which is made by `rt` where it is not there, or the file that `STANDARD_PATH_ARCHIVE` names.
+//! root of the repository, which `sh/archive` makes by `rt` where it is not there, or the file that
+//! `STANDARD_PATH_ARCHIVE` names.
 //!
-//! An archive of the crate's version is taken as it is: after a change to a Rattle source, run `rt staticlib exports`. One
-//! that is gone (`rt ci` removes it) is made anew, because a copy that an earlier build took may be older than the
-//! sources. Only where there is no `rt` is that copy linked, with a warning.
+//! An archive of the crate's version is taken as it is: after a change to a Rattle source, run `sh/archive`. One that is
+//! gone is made anew, because a copy that an earlier build took may be older than the sources. Only where there is no
+//! `rt` is that copy linked, with a warning.
 
 use std::path::{Path, PathBuf};
 use std::process::{exit, Command};
 use std::{env, fs, io};
 
 /// From this crate's folder, in which cargo runs this program.
-const ROOT: &str = "../..";
 const ARCHIVE: &str = "../../target/staticlib/libexports.a";
+const MAKER: &str = "../../sh/archive";
+
+/// The maker's status where there is no `rt`.
+const NO_RT: i32 = 127;
 
 /// A function of this name and the version is in the archive. The linker has the last word on it, see src/lib.rs.
 const NAME: &str = "scion_step_version_";
@@ -79,25 +83,22 @@ fn made(copy: &Path) -> PathBuf {
     if archive.is_file() {
         return archive;
     }
-    // Cargo reads this program's output, so that of rt is kept from it.
-    let rt = Command::new("rt")
-        .args(["staticlib", "exports"])
-        .current_dir(ROOT)
-        .output();
-    match rt {
+    // Cargo reads this program's output, so that of the maker is kept from it.
+    match Command::new(MAKER).output() {
         Ok(output) if output.status.success() => archive,
+        Ok(output) if output.status.code() == Some(NO_RT) => left(copy, "rt, which makes it, is not on the PATH"),
         Ok(output) => fail(&format!(
-            "`rt staticlib exports` failed:\n{}{}",
+            "`sh/archive` failed:\n{}{}",
             String::from_utf8_lossy(&output.stdout),
             String::from_utf8_lossy(&output.stderr)
         )),
-        Err(error) => left(copy, &error),
+        Err(error) => left(copy, &format!("sh/archive, which makes it, does not start ({error})")),
     }
 }
 
 /// The copy of an earlier build, where nothing else is to be had.
-fn left(copy: &Path, error: &io::Error) -> PathBuf {
-    let gone = format!("target/staticlib/libexports.a is not there, and rt, which makes it, does not start ({error})");
+fn left(copy: &Path, why: &str) -> PathBuf {
+    let gone = format!("target/staticlib/libexports.a is not there, and {why}");
     if !copy.is_file() {
         fail(&format!(
             "{gone}: put the Rattle toolchain on the PATH, or name an archive in STANDARD_PATH_ARCHIVE"
@@ -118,8 +119,8 @@ fn check_version(archive: &Path, bytes: &[u8]) {
     };
     let archive = archive.canonicalize().unwrap_or_else(|_| archive.into());
     fail(&format!(
-        "{archive:?} {has}, and this crate takes version {VERSION}: run `rt staticlib exports` in the repository that the \
-         crate is from"
+        "{archive:?} {has}, and this crate takes version {VERSION}: run `sh/archive` in the repository that the crate is \
+         from"
     ));
 }
 

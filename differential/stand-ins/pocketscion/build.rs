@@ -1,5 +1,5 @@
-#[path = "../link_tree.rs"]
-mod link_tree;
+#[path = "../copy_tree.rs"]
+mod copy_tree;
 
 /// The published files that are compiled as they are.
 const PUBLISHED: [&str; 3] = [
@@ -9,5 +9,5 @@ const PUBLISHED: [&str; 3] = [
 ];
 
 fn main() -> std::io::Result<()> {
-    link_tree::link_tree("crates/pocketscion", &PUBLISHED)
+    copy_tree::copy_tree("crates/pocketscion", &PUBLISHED)
 }

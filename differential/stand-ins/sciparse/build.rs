@@ -1,5 +1,5 @@
-#[path = "../link_tree.rs"]
-mod link_tree;
+#[path = "../copy_tree.rs"]
+mod copy_tree;
 
 /// The published files that are compiled as they are.
 const PUBLISHED: [&str; 8] = [
@@ -14,5 +14,5 @@ const PUBLISHED: [&str; 8] = [
 ];
 
 fn main() -> std::io::Result<()> {
-    link_tree::link_tree("crates/libs/sciparse", &PUBLISHED)
+    copy_tree::copy_tree("crates/libs/sciparse", &PUBLISHED)
 }

@@ -1,14 +1,14 @@
 //! For the build scripts of the two crates that hold published files: a source tree in the build directory, made of
-//! symbolic links to the published files, as they are, and to the stand-ins beside them.
+//! copies of the published files, as they are, and of the stand-ins beside them. (No links: `rt ci` refuses a repository
+//! that has some, in a build directory too.)
 
 use std::{
     env, fs, io,
-    os::unix::fs::symlink,
     path::{Path, PathBuf},
 };
 
 /// Makes `OUT_DIR/src` from the crate's own `src/` and the published files of `crate_folder`, named from its `src/`.
-pub fn link_tree(crate_folder: &str, published: &[&str]) -> io::Result<()> {
+pub fn copy_tree(crate_folder: &str, published: &[&str]) -> io::Result<()> {
     let own = package_folder().join("src");
     let source = source_folder().join(crate_folder).join("src");
     let tree = PathBuf::from(env::var_os("OUT_DIR").unwrap()).join("src");
@@ -16,7 +16,7 @@ pub fn link_tree(crate_folder: &str, published: &[&str]) -> io::Result<()> {
         fs::remove_dir_all(&tree)?;
     }
     fs::create_dir_all(&tree)?;
-    link_own(&own, &tree)?;
+    copy_own(&own, &tree)?;
     for name in published {
         let file = source.join(name);
         println!("cargo::rerun-if-changed={}", file.display());
@@ -28,7 +28,7 @@ pub fn link_tree(crate_folder: &str, published: &[&str]) -> io::Result<()> {
             continue;
         }
         fs::create_dir_all(tree.join(name).parent().unwrap())?;
-        symlink(file, tree.join(name))?;
+        fs::copy(file, tree.join(name))?;
     }
     Ok(())
 }
@@ -44,16 +44,16 @@ fn source_folder() -> PathBuf {
     package_folder().join("../../..").join(named)
 }
 
-fn link_own(folder: &Path, into: &Path) -> io::Result<()> {
+fn copy_own(folder: &Path, into: &Path) -> io::Result<()> {
     println!("cargo::rerun-if-changed={}", folder.display());
     for entry in fs::read_dir(folder)? {
         let entry = entry?;
         let target = into.join(entry.file_name());
         if entry.file_type()?.is_dir() {
             fs::create_dir(&target)?;
-            link_own(&entry.path(), &target)?;
+            copy_own(&entry.path(), &target)?;
         } else {
-            symlink(entry.path(), target)?;
+            fs::copy(entry.path(), target)?;
         }
     }
     Ok(())
