@@ -26,7 +26,7 @@ ghost use Rattle.std.specs.Prelude.{◌≤◌};
 
 use calls::Given;
 use std::io;
-use std::io::{BufReader, BufWriter, Read, Write};
+use std::io::{Read, Write};
 
 // Where in the memory each of these stands.
 const PATH: u32 = 0;
@@ -284,8 +284,10 @@ fn run(
 }
 
 fn main(rt: HostRuntime) -> io::Result<()> {
-    let mut input = BufReader::new(rt.alloc(), rt.reader())?;
-    let mut output = BufWriter::new(rt.alloc(), io::writer(&rt))?;
-    run(&mut input, &mut output, &mut [0u8; 4096], &mut [0u8; 69664])?;
-    output.flush()
+    run(
+        &mut rt.reader(),
+        &mut io::writer(&rt),
+        &mut [0u8; 4096],
+        &mut [0u8; 69664],
+    )
 }
