@@ -139,6 +139,9 @@ module _ {edition : Edition} {at : StationStep} (laws : Laws edition at) {path :
       → Stands edition path mid t m (arriving_seg_id edition path t m) → Hop edition path t m → AllReached (start_of path t + m) stations
       → Along edition path t m stations readings
       → ended_well (k + length stations) (journey at k stations readings mid) ≡ true
+  along_well [] readings k t m mid s h all x = elim x [ ]
+  along_well (station ∷ []) [] k t m mid s h all x = elim x [ ]
+  along_well (station ∷ (next ∷ stations)) [] k t m mid s h all x = elim x [ ]
   along_well (station ∷ []) (reading ∷ readings) k t m mid s h all (arrive c l e) =
       well_last at k station reading readings mid ∙ (laws.answered g s h all.0 reading c).delivered ∙ rw (l, e)
   along_well (station ∷ []) (reading ∷ readings) k t m mid s h all (onward c n e rest) = absurd (false≢true (some_station rest))

@@ -144,6 +144,8 @@ module _ {edition : Edition} {path : List ℕ} (shape : Shape edition path) wher
 
   pub along_facts : (t m : ℕ) (stations : List Station) (readings : List ℕ) → Along edition path t m stations readings
       → Hop edition path t m → AllFacts edition path t m stations readings
+  along_facts t m [] readings x h i t' m' some i' w' q = elim x [ ]
+  along_facts t m (station ∷ stations) [] x h i t' m' some i' w' q = elim x [ ]
   along_facts t m (station ∷ []) (reading ∷ readings) (arrive k l e) h zero t' m' some i' w' q =
       go (both_at t m t' m' h i' w' q)
     where
@@ -230,6 +232,8 @@ module _ {edition : Edition} {path : List ℕ} (shape : Shape edition path) wher
 pub along_shape : {edition : Edition} {path : List ℕ} (t m : ℕ) (stations : List Station) (readings : List ℕ)
     → Along edition path t m stations readings → Hop edition path t m → Shape edition path
 unfolding hops
+along_shape {edition} {path} t m [] readings x h = elim x [ ]
+along_shape {edition} {path} t m (station ∷ stations) [] x h = elim x [ ]
 along_shape {edition} {path} t m (station ∷ []) (reading ∷ readings) (arrive k l e) h = peer (peering_path edition path) refl
   where
     go : peering_path edition path ≡ false → (t : ℕ) → t < 3 → ((u : ℕ) → u ≤ t → 2 ≤ count_of path u)

@@ -3,7 +3,7 @@
 -- Assumes nothing.
 use mathlib.Core.Path.{◌≡◌, refl, ap, sym, ◌∙◌}
 use mathlib.Core.Bool.{Bool, true, false, not, ◌&&◌, cond, and-false}
-use mathlib.Core.List.{List, [], ◌∷◌, ◌++◌}
+use mathlib.Core.List.{List}
 use Prim.Native.Nat.{ℕ, zero, suc, ◌+◌, ◌-◌, ◌≤◌, ◌<◌}
 use native.Mathlib.Omega.{arith}
 use borrow.Author.Tests.{eqb-true, eqb-false, eq-eqb, ne_eqb}
@@ -14,7 +14,6 @@ use Rattle.hop_mac.specs.Mac.{mac_beta_step, mac_chaining_beta}
 use Rattle.standard_path.specs.Meta.{curr_inf, curr_hf, set_curr_inf, set_curr_hf}
 use Rattle.fields.specs.Fields.{by_direction, cons_dir, seg_id, mac_field}
 use Rattle.standard_path.specs.Header.{infos, header_size, info_field, hop_field}
-use Rattle.hop_mac.proofs.HopMac.{chaining_append}
 use Rattle.standard_path.proofs.Kept.{Kept, kept_trans, infos_kept}
 use Rattle.standard_path.proofs.IndexSet.{set_hf_kept, set_hf_hop, set_hf_info, set_inf_kept, set_inf_hop, set_inf_info, hf_after_hf, inf_after_hf, hf_after_inf, inf_after_inf}
 use Rattle.edition.specs.declared.Edition.{Edition}
