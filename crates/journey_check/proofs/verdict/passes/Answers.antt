@@ -1,0 +1,45 @@
+use mathlib.Core.Path.{sym, ◌∙◌}
+use borrow.Author.Tests.{not-true, not-false}
+use Rattle.records.specs.Layout.{layout_of}
+use Rattle.journey.specs.Check.{passes}
+use Rattle.journey_check.specs.Inner.{Matched}
+use Rattle.journey_check.proofs.Stations.{segments-read, joints-read}
+use Rattle.journey_check.proofs.verdict.passes.Goals as goal
+
+pub returns-then-not-peering_fits : goal.returns-then-not-peering_fits
+unfolding passes
+returns-then-not-peering_fits c = rw (← c.peering_fits.ensures, not-true c.peering_fits.result c.if-not-peering_fits.true-raw)
+
+pub returns-then-not-lengths_pass : goal.returns-then-not-lengths_pass
+unfolding passes
+returns-then-not-lengths_pass c =
+    let fits = c.peering_fits in
+    let lengths-pass = c.lengths_pass in
+    rw (
+      ← fits.ensures,
+      not-false fits.result c.if-not-peering_fits.false-raw,
+      ← lengths-pass.ensures,
+      not-true lengths-pass.result c.if-not-lengths_pass.true-raw,
+    )
+
+pub returns : goal.returns
+unfolding passes
+returns c =
+    let fits = c.peering_fits in
+    let lengths-pass = c.lengths_pass in
+    let args = c.args in
+    let pre = c.requires in
+    let first-stations = c.first_stations-firsts in
+    let long = not-false lengths-pass.result c.if-not-lengths_pass.false-raw in
+    let matched : Matched args.edition (layout_of args.form) args.itinerary.now args.path.now =
+    record { fit = sym lengths-pass.ensures ∙ long; counted = pre } in
+    rw (
+      ← fits.ensures,
+      not-false fits.result c.if-not-peering_fits.false-raw,
+      ← lengths-pass.ensures,
+      long,
+      ← segments-read _ _ _ _ matched first-stations.ensures _ _,
+      ← joints-read _ _ _ _ matched first-stations.ensures,
+      ← c.segments_fit.ensures,
+      ← c.joints_fit.ensures,
+    )
