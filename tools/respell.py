@@ -37,7 +37,7 @@ def read(path):
 def declared(text):
     for line in text.split("\n"):
         m = DECLARED.match(line + " ")
-        if m and not line.lstrip().startswith("--") and len(m.group(1)) <= 4:
+        if m and not line.lstrip().startswith("--") and len(m.group(1)) <= 8:
             for name in m.group(3).split():
                 yield name, m.group(4)
 

@@ -50,11 +50,11 @@ module _ (layout : Layout) (itinerary : List ℕ) where
     none_arrives z = rw (← e, chain_end layout itinerary (later + 1) first z)
 
     module _ (here : first ≡ 0 → ⊥) {arrival : ℕ} (d : arrival ≡ arrival_of layout itinerary first) where
-      by-records : arrivals_fit (stations_within layout itinerary (later + 1) table_limit)
+      by_records : arrivals_fit (stations_within layout itinerary (later + 1) table_limit)
           ≡ (eqb arrival 0 && every (λ station. not (eqb (arrival_of layout itinerary station) 0))
           (chain_within layout itinerary later (next_of layout itinerary first)))
       unfolding stations_of station_with arrivals_fit
-      by-records =
+      by_records =
           let rest : later + 1 - 1 ≡ later = omega arith in
           rw (
             d,
@@ -66,13 +66,13 @@ module _ (layout : Layout) (itinerary : List ℕ) where
                 (chain_within layout itinerary later (next_of layout itinerary first)),
           )
 
-      pub first-arrives : (arrival ≡ 0 → ⊥) → false ≡ arrivals_fit (stations_within layout itinerary (later + 1) table_limit)
-      first-arrives n = sym (by-records ∙ rw (ne_eqb _ 0 n))
+      pub first_arrives : (arrival ≡ 0 → ⊥) → false ≡ arrivals_fit (stations_within layout itinerary (later + 1) table_limit)
+      first_arrives n = sym (by_records ∙ rw (ne_eqb _ 0 n))
 
-      pub later-arrive : arrival ≡ 0 → {next : ℕ} → next ≡ next_of layout itinerary first → {answer : Bool}
+      pub later_arrive : arrival ≡ 0 → {next : ℕ} → next ≡ next_of layout itinerary first → {answer : Bool}
           → answer ≡ every (λ station. not (eqb (arrival_of layout itinerary station) 0)) (chain_within layout itinerary later next)
           → answer ≡ arrivals_fit (stations_within layout itinerary (later + 1) table_limit)
-      later-arrive z q a = a ∙ sym (by-records ∙ rw (eq-eqb _ 0 z, q))
+      later_arrive z q a = a ∙ sym (by_records ∙ rw (eq-eqb _ 0 z, q))
 
   -- ---- a station by its place
 

@@ -33,7 +33,7 @@ use Rattle.journey.proofs.Laws.{Laws}
 use Rattle.journey.proofs.AtStation.{at_station}
 use Rattle.journey.proofs.Lengths.{Shape, first_of_shape}
 use Rattle.journey.proofs.Facts.{AllFacts, along_facts, facts_along, along_shape}
-use Rattle.journey.proofs.Parts.{shared_first, passes_fits, passes_shape, check-facts, facts_check}
+use Rattle.journey.proofs.Parts.{shared_first, passes_fits, passes_shape, check_facts, facts_check}
 use Rattle.journey.proofs.Ends.{stopped, stopped_unwell, stops_here}
 use Rattle.journey.proofs.LetThrough.{Asked, asked}
 
@@ -158,7 +158,7 @@ module _ {edition : Edition} {at : StationStep} (laws : Laws edition at) {path :
       let shape = passes_shape edition stations earliest latest path e in
       let first = first_of_shape shape (fits_valid edition path (passes_fits edition stations earliest latest path e)) in
       let each : length readings ≡ length stations = r.each in
-      let all-facts = check-facts edition stations earliest latest path e a.counted readings
+      let all-facts = check_facts edition stations earliest latest path e a.counted readings
       (λ k l. r.from k (omega arith)) (λ k l. r.to k (omega arith)) in
       well_arrives readings
       (along_well laws a.given stations readings 0 0 0 path (starts a) first (reached a)

@@ -67,9 +67,9 @@ module _ (edition : Edition) (path : List ℕ) (hf : curr_hf path ≡ 0) (inf : 
 
       two : segment path ≡ 0 → 0 < seg0_len path → not (alone path) ≡ true → 2 ≤ seg0_len path
       two at_first some q =
-          let alone-no : alone path ≡ false = not-true (alone path) q in
-          let not-ended : eqb (0 + 1) (seg0_len path) ≡ false = rw (at_first, hf) at alone-no in
-          omega (arith, some, eqb-false (0 + 1) (seg0_len path) not-ended)
+          let alone_no : alone path ≡ false = not-true (alone path) q in
+          let not_ended : eqb (0 + 1) (seg0_len path) ≡ false = rw (at_first, hf) at alone_no in
+          omega (arith, some, eqb-false (0 + 1) (seg0_len path) not_ended)
 
   -- 8 is then answered yes
   pub eights_yes : Begun edition path → first_no (eights edition path) ≡ Valid

@@ -193,15 +193,15 @@ module _ (edition : Edition) (stations : List Station) (earliest latest : ℕ) (
       abbrev Came : ℕ → ℕ → Type 0
       Came t m = let_in (station_of edition stations path t m) (info_field path t) (hop_of path t m) ≡ true
 
-      came-by : (t m : ℕ) → t < infos path → m < count_of path t → Came t m
-      came-by zero zero h w = local_let_in (station_of edition stations path 0 0) (info_field path 0) (hop_of path 0 0)
+      came_by : (t m : ℕ) → t < infos path → m < count_of path t → Came t m
+      came_by zero zero h w = local_let_in (station_of edition stations path 0 0) (info_field path 0) (hop_of path 0 0)
           (let e : station_index edition path 0 0 ≡ 0 = omega (arith, shared_first edition path) in rw e counted.first)
-      came-by (suc t) zero h w =
+      came_by (suc t) zero h w =
           let more : t + 1 ≡ suc t = omega arith in
           subst (λ (u : ℕ). Came u 0) more
           (arrives_let_in (station_of edition stations path (t + 1) 0) (info_field path (t + 1)) (hop_of path (t + 1) 0)
           (joint_parts t (omega arith)).1)
-      came-by t (suc m) h w =
+      came_by t (suc m) h w =
           arrives_let_in (station_of edition stations path t (suc m)) (info_field path t) (hop_of path t (suc m))
           ((fitting t (suc m) h w).came (omega arith))
 
@@ -231,15 +231,15 @@ module _ (edition : Edition) (stations : List Station) (earliest latest : ℕ) (
           subst (λ (n : ℕ). leaves_by (station_of edition stations path t n) (info_field path t) (hop_of path t n) ≡ true) last
           (chosen (peering_path edition path) _ _ p (joint_parts t (omega (arith, linked_infos edition path p))).0)
 
-      pub check-facts : (readings : List ℕ) → ((k : ℕ) → k < length stations → earliest ≤ get_or readings k 0)
+      pub check_facts : (readings : List ℕ) → ((k : ℕ) → k < length stations → earliest ≤ get_or readings k 0)
           → ((k : ℕ) → k < length stations → get_or readings k 0 ≤ latest) → AllFacts edition path 0 0 stations readings
       unfolding all_yes mac_fits
-      check-facts readings low high i t m l h w q =
+      check_facts readings low high i t m l h w q =
           let here : station_index edition path t m ≡ i = omega (arith, start_enough passes_shape t h, shared_first edition path) in
           let f = fitting t m h w in
           subst (λ (k : ℕ). HopFacts edition path (get_or stations k no_station) (get_or readings i 0) t m) here
           (record {
-            good = both (came-by t m h w)
+            good = both (came_by t m h w)
                 (both (le-leb _ _ (le_trans (early t h) (low i l)))
                 (both (le-leb _ _ (le_trans (high i l) f.late)) (both f.mac refl)));
             way = goes t m h w;

@@ -170,9 +170,9 @@ answered_bytes {at} l (station ∷ stations) (reading1 ∷ first) (reading2 ∷ 
         let same : k ≡ j = cc in absurd (omega arith)
     go false a false b rest e f =
         let answers : (at station reading1 path).answer ≡ (at station reading2 path).answer = cc in
-        let left-1 : (at station reading1 path).bytes ≡ left1 = cc in
-        let left-2 : (at station reading2 path).bytes ≡ left2 = cc in
-        sym left-1 ∙ l.alike station reading1 reading2 path answers ∙ left-2
+        let left_1 : (at station reading1 path).bytes ≡ left1 = cc in
+        let left_2 : (at station reading2 path).bytes ≡ left2 = cc in
+        sym left_1 ∙ l.alike station reading1 reading2 path answers ∙ left_2
 
 -- two journeys over the same stations, from the same bytes, that end at one station with one answer leave the same bytes
 pub same_bytes : (edition : Edition) (stations : List Station) (first second : List ℕ) (k : ℕ) (path : List ℕ) {j : ℕ} {answer : StepAnswer}

@@ -108,20 +108,20 @@ module _ (layout : Layout) (itinerary : List ℕ) where
       first_read : (s : ℕ) → s < infos path → get_or firsts s 0 ≡ first_record edition layout itinerary path s
       first_read s h = rw e (three s (at_most_three path s h))
 
-      pub segments-read : (earliest latest : ℕ)
+      pub segments_read : (earliest latest : ℕ)
           → each_below (infos path) (λ s. segment_fits_from edition layout itinerary (get_or firsts s 0) earliest latest path s)
           ≡ each_below (infos path) (segment_passes edition (stations layout itinerary) earliest latest path)
       unfolding segment_passes segment_fits
-      segments-read earliest latest =
+      segments_read earliest latest =
           all_same (infos path) _ _
           (λ s h. ap (λ (x : Bool). leb (timestamp (info_field path s)) earliest && x)
           (all_same (count_of path s) _ _ (λ m w. rw (first_read s h, ← station_read s m h w))))
 
       -- the first hop's station, over a peering link, and the second's
-      here-read : (s : ℕ) → s < infos path → peering_path edition path ≡ true
+      here_read : (s : ℕ) → s < infos path → peering_path edition path ≡ true
           → station_at layout itinerary (get_or records (start_of path s + (count_of path s - 1)) 0)
           ≡ station_of edition (stations layout itinerary) path s (count_of path s - 1)
-      here-read s h p =
+      here_read s h p =
           let w : count_of path s - 1 < count_of path s = omega (arith, some_hops s h) in
           let index : start_of path s + (count_of path s - 1) ≡ start_of path s - shared edition path s + (count_of path s - 1) =
           omega (arith, shared_linked edition path p s) in
@@ -129,16 +129,16 @@ module _ (layout : Layout) (itinerary : List ℕ) where
           (sym (station_from_record layout itinerary records (table_records layout itinerary)
           (start_of path s - shared edition path s + (count_of path s - 1)) no_station (among s (count_of path s - 1) h w)))
 
-      next-read : (s : ℕ) → s < infos path
+      next_read : (s : ℕ) → s < infos path
           → station_at layout itinerary (get_or firsts s 0) ≡ station_of edition (stations layout itinerary) path s 0
       unfolding record_after
-      next-read s h = rw (first_read s h) (sym (station_read s 0 h (omega (arith, some_hops s h))))
+      next_read s h = rw (first_read s h) (sym (station_read s 0 h (omega (arith, some_hops s h))))
 
-      joint-read : (s : ℕ) → s + 1 < infos path
+      joint_read : (s : ℕ) → s + 1 < infos path
           → joint_fits_from edition layout itinerary (get_or firsts (s + 1) 0) path s
           ≡ joint_passes edition (stations layout itinerary) path s
       unfolding joint_passes
-      joint-read s h = go (peering_path edition path) refl
+      joint_read s h = go (peering_path edition path) refl
         where
           here : Station
           here = station_at layout itinerary (get_or records (start_of path s + (count_of path s - 1)) 0)
@@ -159,10 +159,10 @@ module _ (layout : Layout) (itinerary : List ℕ) where
               && arrives_by other (info_field path (s + 1)) (hop_of path (s + 1) 0)
 
           go : (peer : Bool) → peering_path edition path ≡ peer → asked peer here next ≡ asked peer here' next'
-          go true p = ap₂ (asked true) (here-read s (omega arith) p) (next-read (s + 1) h)
-          go false p = ap (asked false here) (next-read (s + 1) h)
+          go true p = ap₂ (asked true) (here_read s (omega arith) p) (next_read (s + 1) h)
+          go false p = ap (asked false here) (next_read (s + 1) h)
 
-      pub joints-read :
+      pub joints_read :
           each_below (infos path - 1) (λ s. joint_fits_from edition layout itinerary (get_or firsts (s + 1) 0) path s)
           ≡ each_below (infos path - 1) (joint_passes edition (stations layout itinerary) path)
-      joints-read = all_same (infos path - 1) _ _ (λ s h. joint-read s (omega arith))
+      joints_read = all_same (infos path - 1) _ _ (λ s h. joint_read s (omega arith))

@@ -247,17 +247,17 @@ module _ (edition : Edition) (ids states : List ℕ) (mac : MacFunction) (interf
       let more : 0 < length advanced = omega (arith, some, (set_hf_kept fields-moved (curr_hf path + 1)).size) in
       let hf : curr_hf after ≡ curr_hf path + 1 = change_hf changing in
       let inf : curr_inf after ≡ curr_inf path + 1 = inf_after_inf advanced _ more (omega (arith, next, infos_few path)) in
-      let hop-next : hop_field after (curr_hf path + 1) ≡ next_hop path =
+      let hop_next : hop_field after (curr_hf path + 1) ≡ next_hop path =
       set_inf_hop advanced _ _ ∙ set_hf_hop fields-moved _ _ ∙ fields.hop_other _ (λ e. omega arith) in
-      let info-next : info_field after (curr_inf path + 1) ≡ next_info path =
+      let info_next : info_field after (curr_inf path + 1) ≡ next_info path =
       set_inf_info advanced _ _ ∙ set_hf_info fields-moved _ _ ∙ fields.info_other _ next (λ e. omega arith) in
       let change-asked = change_questions ids states (curr_hf path) (hop path) (info path) (next_hop path) (next_info path) in
       record {
         among = rw hf far;
         inside = rw inf next;
         passes = rw (hf, inf)
-            (passes_again mac interface time unchecked (same_hop hop-next) (same_info info-next) (curr_hf path + 1) (curr_hf path + 1)
-            (ap seg_id info-next) leaves
+            (passes_again mac interface time unchecked (same_hop hop_next) (same_info info_next) (curr_hf path + 1) (curr_hf path + 1)
+            (ap seg_id info_next) leaves
             (last_yes change-asked (hop_questions mac at (curr_hf path + 1) (next_hop path) (next_info path) (seg_id (next_info path)))
             (last_yes (hop_questions mac at (curr_hf path) (hop path) (info path) (ingress_seg_id edition path interface)) _ checks)));
       }

@@ -120,10 +120,10 @@ module _ {layout : Layout} {itinerary : List ℕ} {first lowest left index : ℕ
     entered_low h = unsound (rw (chain_on layout itinerary left index _ more here refl, lt-leb lowest _ h))
 
     module _ (high : lowest ≤ interface_number_of layout itinerary index) where
-      pub entered-state : 8 ≤ interface_state_of layout itinerary index
+      pub entered_state : 8 ≤ interface_state_of layout itinerary index
           → false ≡ sound_table layout itinerary (chain_within layout itinerary 257 first)
       unfolding entries_sound
-      entered-state h =
+      entered_state h =
           unsound (rw (chain_on layout itinerary left index _ more here refl, le-leb lowest _ high, le-ltb _ 8 h))
 
       pub entered_on : {number next : ℕ} → interface_state_of layout itinerary index < 8 → number ≡ interface_number_of layout itinerary index

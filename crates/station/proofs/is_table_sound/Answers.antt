@@ -1,7 +1,7 @@
 use borrow.Author.Rules.{rules}
 use native.Mathlib.Omega.{arith}
 use Rattle.station.specs.Station.{station_with}
-use Rattle.station.proofs.Walks.{entered_end, entered_out, entered_low, entered-state, entered_on}
+use Rattle.station.proofs.Walks.{entered_end, entered_out, entered_low, entered_state, entered_on}
 use Rattle.station.proofs.is_table_sound.Goals as goal
 
 pub loop-left-init : goal.loop-left-init
@@ -23,7 +23,7 @@ unfolding station_with
 returns-then-interface_state-ge8 c =
     let number = c.interface_number-number.ensures in
     let state = c.interface_state.ensures in
-    entered-state c.loop-left.invariant (search rules)
+    entered_state c.loop-left.invariant (search rules)
     c.if-index-eq0.false (omega (arith, number)) (omega (arith, state))
 
 pub loop-left-preserved : goal.loop-left-preserved

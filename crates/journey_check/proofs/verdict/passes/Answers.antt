@@ -1,14 +1,13 @@
 use mathlib.Core.Path.{sym, ◌∙◌}
-use borrow.Author.Tests.{not-true, not-false}
 use Rattle.records.specs.Layout.{layout_of}
 use Rattle.journey.specs.Check.{passes}
 use Rattle.journey_check.specs.Inner.{Matched}
-use Rattle.journey_check.proofs.Stations.{segments-read, joints-read}
+use Rattle.journey_check.proofs.Stations.{segments_read, joints_read}
 use Rattle.journey_check.proofs.verdict.passes.Goals as goal
 
 pub returns-then-not-peering_fits : goal.returns-then-not-peering_fits
 unfolding passes
-returns-then-not-peering_fits c = rw (← c.peering_fits.ensures, not-true c.peering_fits.result c.if-not-peering_fits.true-raw)
+returns-then-not-peering_fits c = rw (← c.peering_fits.ensures, c.if-not-peering_fits.true)
 
 pub returns-then-not-lengths_pass : goal.returns-then-not-lengths_pass
 unfolding passes
@@ -17,9 +16,9 @@ returns-then-not-lengths_pass c =
     let lengths-pass = c.lengths_pass in
     rw (
       ← fits.ensures,
-      not-false fits.result c.if-not-peering_fits.false-raw,
+      c.if-not-peering_fits.false,
       ← lengths-pass.ensures,
-      not-true lengths-pass.result c.if-not-lengths_pass.true-raw,
+      c.if-not-lengths_pass.true,
     )
 
 pub returns : goal.returns
@@ -30,16 +29,16 @@ returns c =
     let args = c.args in
     let pre = c.requires in
     let first-stations = c.first_stations-firsts in
-    let long = not-false lengths-pass.result c.if-not-lengths_pass.false-raw in
+    let long = c.if-not-lengths_pass.false in
     let matched : Matched args.edition (layout_of args.form) args.itinerary.now args.path.now =
     record { fit = sym lengths-pass.ensures ∙ long; counted = pre } in
     rw (
       ← fits.ensures,
-      not-false fits.result c.if-not-peering_fits.false-raw,
+      c.if-not-peering_fits.false,
       ← lengths-pass.ensures,
       long,
-      ← segments-read _ _ _ _ matched first-stations.ensures _ _,
-      ← joints-read _ _ _ _ matched first-stations.ensures,
+      ← segments_read _ _ _ _ matched first-stations.ensures _ _,
+      ← joints_read _ _ _ _ matched first-stations.ensures,
       ← c.segments_fit.ensures,
       ← c.joints_fit.ensures,
     )
