@@ -3,7 +3,9 @@ use Rattle.moves.specs.Inner.{egress_move_at}
 use Rattle.moves.proofs.move_egress.Goals as goal
 
 pub overflow_add-segment : goal.overflow_add-segment
-overflow_add-segment c = omega (arith, c.type_inv.path 0)
+overflow_add-segment c =
+    let slice-known = c.slice_known-1 in
+    omega (arith, slice-known.given 0)
 
 pub returns : goal.returns
 unfolding egress_move_at

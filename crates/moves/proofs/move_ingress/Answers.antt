@@ -3,7 +3,7 @@ use Rattle.moves.specs.Inner.{ingress_move_at}
 use Rattle.moves.proofs.move_ingress.Goals as goal
 
 pub overflow_add-next_segment : goal.overflow_add-next_segment
-overflow_add-next_segment c = omega (arith, c.type_inv.path 0)
+overflow_add-next_segment c = omega (arith, c.slice_known-1.given 0)
 
 pub returns-then-change : goal.returns-then-change
 unfolding ingress_move_at
