@@ -10,7 +10,8 @@
  *   may overlap one another.
  * - `ids` is aligned as a uint16_t is.
  *
- * A call is thread-safe: it has no state. It allocates nothing, makes no system call and leaves errno alone. So calls
+ * A call is thread-safe: it has no state. It allocates nothing, makes no system call and leaves errno alone. Of the C
+ * library it asks for memset alone, which gcc and clang ask of a freestanding environment too. So calls
  * may run on many threads at a time, and in signal handlers, as long as none writes what another one is given. A call
  * takes at most SCION_STEP_STACK bytes of stack.
  *
