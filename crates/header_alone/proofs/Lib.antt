@@ -1,0 +1,4 @@
+pub mod Lengths
+pub mod Entered
+pub mod Followed
+pub mod HeaderAlone

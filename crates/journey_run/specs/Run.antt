@@ -1,0 +1,15 @@
+-- How a journey's end is told to callers: the station and its answer, and apart from them the bytes left.
+-- Assumes nothing.
+use Rattle.std.specs.Prelude.{ℕ, List}
+use Rattle.journey.specs.Journey.{Ended, nowhere, ended_at}
+use Rattle.journey_run.specs.declared.JourneyEnd.{JourneyEnd}
+use Rattle.journey_run.specs.declared.JourneyEnd.TheVariants.{Nowhere, EndedAt}
+
+abbrev pub end_of : Ended → JourneyEnd
+end_of nowhere = Nowhere
+end_of (ended_at k answer left) = EndedAt k answer
+
+-- the bytes that it leaves, of those that it began with
+abbrev pub left_of : List ℕ → Ended → List ℕ
+left_of path nowhere = path
+left_of path (ended_at k answer left) = left
