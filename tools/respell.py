@@ -16,8 +16,8 @@ import re
 WORD = r"[A-Za-z_][A-Za-z0-9_'\u2080-\u2089-]*"
 CAMEL = re.compile(r"(?<![A-Za-z0-9_'-])[a-z][A-Za-z0-9_'-]*")
 DECLARED = re.compile(r"^(\s*)((?:(?:abbrev|unfoldable|axiom|pub|data|record|ruleset)\s+)*)([^\s:(){}=|;,\u03bb]+(?:\s+[^\s:(){}=|;,\u03bb]+)*)\s+:\s(.*)$")
-# The toolchain's script has spelled this one by a name that is no more.
-OTHERS = {"get_d_tabulate": "get_or_tabulate"}
+# The toolchain's script has spelled these by a name that is no more.
+OTHERS = {"get_d_tabulate": "get_or_tabulate", "get_d_map": "get_or_map"}
 RECORD = re.compile(r"^(\s*)(?:pub )?record .*where\s*$")
 FIELD = re.compile(r"^(\s*)(?:pub )?([^\s:]+(?: [^\s:]+)*) :")
 # Spelled like a definition of another crate that the same files speak of, or like one of their own crate.

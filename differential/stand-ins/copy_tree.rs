@@ -27,8 +27,14 @@ pub fn copy_tree(crate_folder: &str, published: &[&str]) -> io::Result<()> {
             );
             continue;
         }
-        fs::create_dir_all(tree.join(name).parent().unwrap())?;
-        fs::copy(file, tree.join(name))?;
+        let target = tree.join(name);
+        if target.exists() {
+            let target = target.display();
+            println!("cargo::error={target} stands in for a published file that is there");
+            continue;
+        }
+        fs::create_dir_all(target.parent().unwrap())?;
+        fs::copy(file, target)?;
     }
     Ok(())
 }

@@ -18,11 +18,11 @@ use Rattle.records.specs.Inner.{table_records_within}
 use Rattle.records.proofs.Every.{every_map}
 use Rattle.records.proofs.Walks.{chain_end, chain_on}
 
-get_d_map : {B : Type 0} (f : ℕ → B) (xs : List ℕ) (place : ℕ) (none : B) → place < length xs
+get_or_map : {B : Type 0} (f : ℕ → B) (xs : List ℕ) (place : ℕ) (none : B) → place < length xs
     → get_or (map f xs) place none ≡ f (get_or xs place 0)
-get_d_map f [] place none h = absurd (omega arith)
-get_d_map f (x ∷ xs) zero none h = refl
-get_d_map f (x ∷ xs) (suc place) none h = get_d_map f xs place none (omega arith)
+get_or_map f [] place none h = absurd (omega arith)
+get_or_map f (x ∷ xs) zero none h = refl
+get_or_map f (x ∷ xs) (suc place) none h = get_or_map f xs place none (omega arith)
 
 module _ (layout : Layout) (itinerary : List ℕ) where
   abbrev pub has_sound_table : (ℕ → List ℕ) → ℕ → Bool
@@ -42,7 +42,7 @@ module _ (layout : Layout) (itinerary : List ℕ) where
     pub station_from_record : (place : ℕ) (none : Station) → place < length chained
         → get_or (stations_of layout itinerary chained table_of) place none ≡ station_with layout itinerary table_of (get_or chained place 0)
     unfolding stations_of
-    station_from_record place none h = get_d_map (station_with layout itinerary table_of) chained place none h
+    station_from_record place none h = get_or_map (station_with layout itinerary table_of) chained place none h
 
   module _ (later table_limit : ℕ) {first : ℕ} (e : first ≡ first_station layout itinerary) where
     pub none_arrives : first ≡ 0 → true ≡ arrivals_fit (stations_within layout itinerary (later + 1) table_limit)

@@ -21,7 +21,7 @@ use Rattle.answers.proofs.Asked.{told, asks_told}
 use Rattle.ingress.proofs.Told.{ingress_all_told}
 use Rattle.place.specs.Place.{before, is_final, changes, ingress_place}
 use Rattle.checks.specs.Checks.{ingress_questions}
-use Rattle.ingress.specs.Ingress.{alerts_at_ingress, leaving, ingress_action, ingress}
+use Rattle.ingress.specs.Ingress.{alerts_at_ingress, leaving, ingress_action}
 use Rattle.moves.specs.Moves.{ingress_move, egress_move}
 use Rattle.egress.specs.Egress.{egress_action, egress}
 use Rattle.routing.specs.Step.{leaving_questions, step_from, step}

@@ -1,3 +1,3 @@
-//! The published files of `sciparse`, unchanged, among stand-ins for the others: `build.rs` links both into one tree.
+//! The published files of `sciparse`, unchanged, among stand-ins for the others: `build.rs` copies both into one tree.
 
 include!(concat!(env!("OUT_DIR"), "/src/lib.rs"));

@@ -8,9 +8,9 @@ use Rattle.cmac.proofs.last_block.Goals as goal
 pub returns-then-message-at-eq16 : goal.returns-then-message-at-eq16
 returns-then-message-at-eq16 c =
     let args = c.args in
-    let blocks-before-last = c.blocks_before_last-at in
+    let blocks_before_last = c.blocks_before_last-at in
     c.xor_block.ensures ∙ ap (λ (s : List ℕ). xor_block s args.k1) c.block_at.ensures
-    ∙ last_complete _ _ _ blocks-before-last.ensures c.if-message-at-eq16.true
+    ∙ last_complete _ _ _ blocks_before_last.ensures c.if-message-at-eq16.true
 
 pub returns-else-message-at-eq16 : goal.returns-else-message-at-eq16
 returns-else-message-at-eq16 c =

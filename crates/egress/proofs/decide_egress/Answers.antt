@@ -4,16 +4,16 @@ use Rattle.egress.proofs.decide_egress.Goals as goal
 
 pub returns-in-Valid : goal.returns-in-Valid
 returns-in-Valid c =
-    let curr-hop-field = c.curr_hop_field in
-    let curr-info-field = c.curr_info_field in
-    let egress-action = c.egress_action-action in
+    let curr_hop_field = c.curr_hop_field in
+    let curr_info_field = c.curr_info_field in
+    let egress_action = c.egress_action-action in
     rw (
       asks_told Refused,
       ← c.validate_egress.ensures,
       c.in-Valid.is,
-      ← curr-hop-field.ensures,
-      ← curr-info-field.ensures,
-    ) egress-action.ensures
+      ← curr_hop_field.ensures,
+      ← curr_info_field.ensures,
+    ) egress_action.ensures
 
 pub returns-in-Invalid : goal.returns-in-Invalid
 returns-in-Invalid c = rw (asks_told Refused, ← c.validate_egress.ensures, c.in-Invalid.is)

@@ -5,13 +5,13 @@ use Rattle.egress.proofs.egress_here.Goals as goal
 pub returns : goal.returns
 returns c =
     let args = c.args in
-    let curr-hop-field-idx = c.curr_hop_field_idx in
-    let hop-field-offset = c.hop_field_offset-hop_at in
-    let curr-info-field = c.curr_info_field in
-    let cons-dir = c.cons_dir-cons_dir in
-    let decide-egress = c.decide_egress-answer in
+    let curr_hop_field_idx = c.curr_hop_field_idx in
+    let hop_field_offset = c.hop_field_offset-hop_at in
+    let curr_info_field = c.curr_info_field in
+    let cons_dir = c.cons_dir-cons_dir in
+    let decide_egress = c.decide_egress-answer in
     record {
-      value = decide-egress.ensures;
+      value = decide_egress.ensures;
       path_after = c.move_egress.ensures ∙ egress_move_lent args.edition args.path.now (rw
-          curr-hop-field-idx.ensures at hop-field-offset.ensures) (rw curr-info-field.ensures at cons-dir.ensures);
+          curr_hop_field_idx.ensures at hop_field_offset.ensures) (rw curr_info_field.ensures at cons_dir.ensures);
     }

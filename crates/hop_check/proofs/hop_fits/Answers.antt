@@ -5,13 +5,13 @@ pub returns : goal.returns
 unfolding hop_fits
 returns c =
     let key = c.key-key in
-    let expiry-timestamp = c.expiry_timestamp in
-    let mac-fits = c.mac_fits in
-    let arrives-by = c.arrives_by in
+    let expiry_timestamp = c.expiry_timestamp in
+    let mac_fits = c.mac_fits in
+    let arrives_by = c.arrives_by in
     rw (
       ← key.ensures,
-      ← expiry-timestamp.ensures,
-      ← mac-fits.ensures,
-      ← arrives-by.ensures,
+      ← expiry_timestamp.ensures,
+      ← mac_fits.ensures,
+      ← arrives_by.ensures,
       ← c.leaves_by.ensures,
     )

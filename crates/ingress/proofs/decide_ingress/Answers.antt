@@ -4,8 +4,8 @@ use Rattle.ingress.proofs.decide_ingress.Goals as goal
 
 pub returns-in-Valid : goal.returns-in-Valid
 returns-in-Valid c =
-    let ingress-action = c.ingress_action-action in
-    rw (asks_told Refused, ← c.validate_ingress.ensures, c.in-Valid.is) ingress-action.ensures
+    let ingress_action = c.ingress_action-action in
+    rw (asks_told Refused, ← c.validate_ingress.ensures, c.in-Valid.is) ingress_action.ensures
 
 pub returns-in-Invalid : goal.returns-in-Invalid
 returns-in-Invalid c = rw (asks_told Refused, ← c.validate_ingress.ensures, c.in-Invalid.is)

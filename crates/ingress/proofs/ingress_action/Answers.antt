@@ -12,5 +12,5 @@ returns-then-last c = rw (← c.alerts_at_ingress.ensures, c.if-alerts_at_ingres
 pub returns : goal.returns
 unfolding ingress_action
 returns c =
-    let alerts-at-ingress = c.alerts_at_ingress in
-    rw (← alerts-at-ingress.ensures, c.if-alerts_at_ingress.false, c.if-last.false, c.leaving_interface.ensures)
+    let alerts_at_ingress = c.alerts_at_ingress in
+    rw (← alerts_at_ingress.ensures, c.if-alerts_at_ingress.false, c.if-last.false, c.leaving_interface.ensures)

@@ -16,22 +16,22 @@ pub bounds-firsts-segment : goal.bounds-firsts-segment
 bounds-firsts-segment c =
     let args = c.args in
     let loop = c.loop-segment in
-    let info-field-count = c.info_field_count-infos in
-    let few = at_most_three args.path.now (loop.segment + 1) (omega (arith, info-field-count.ensures)) in
+    let info_field_count = c.info_field_count-infos in
+    let few = at_most_three args.path.now (loop.segment + 1) (omega (arith, info_field_count.ensures)) in
     search rules
 
 pub joint_fits-requires : goal.joint_fits-requires
 joint_fits-requires c =
     let args = c.args in
-    let info-field-count = c.info_field_count-infos in
-    let few = at_most_three args.path.now (c.loop-segment.segment + 1) (omega (arith, info-field-count.ensures)) in
+    let info_field_count = c.info_field_count-infos in
+    let few = at_most_three args.path.now (c.loop-segment.segment + 1) (omega (arith, info_field_count.ensures)) in
     omega arith
 
 pub returns-then-not-joint_fits : goal.returns-then-not-joint_fits
 returns-then-not-joint_fits c =
-    let info-field-count = c.info_field_count-infos in
+    let info_field_count = c.info_field_count-infos in
     let loop = c.loop-segment in
-    rw (← info-field-count.ensures) (asked_no loop.invariant (omega arith) c.joint_fits.ensures (ap not c.if-not-joint_fits.true))
+    rw (← info_field_count.ensures) (asked_no loop.invariant (omega arith) c.joint_fits.ensures (ap not c.if-not-joint_fits.true))
 
 pub loop-segment-preserved : goal.loop-segment-preserved
 loop-segment-preserved c =
@@ -40,5 +40,5 @@ loop-segment-preserved c =
 
 pub returns : goal.returns
 returns c =
-    let info-field-count = c.info_field_count-infos in
-    rw (← info-field-count.ensures) (asked_all c.loop-segment.invariant (omega arith))
+    let info_field_count = c.info_field_count-infos in
+    rw (← info_field_count.ensures) (asked_all c.loop-segment.invariant (omega arith))

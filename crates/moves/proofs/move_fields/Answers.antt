@@ -11,5 +11,5 @@ unfolding fields_at
 returns c =
     let if1 = c.if-interface-eq0 in
     let takes_step = c.takes_step-taken in
-    let beta-step = c.beta_step in
-    rw (ne_eqb _ _ if1.false) (rw (beta-step.ensures, takes_step.ensures) at c.clear_ingress_alert.ensures)
+    let beta_step = c.beta_step in
+    rw (ne_eqb _ _ if1.false) (rw (beta_step.ensures, takes_step.ensures) at c.clear_ingress_alert.ensures)

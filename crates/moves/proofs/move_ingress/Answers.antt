@@ -8,13 +8,13 @@ overflow_add-next_segment c = omega (arith, c.slice_known-1.given 0)
 pub returns-then-change : goal.returns-then-change
 unfolding ingress_move_at
 returns-then-change c =
-    let curr-hop-field-idx = c.curr_hop_field_idx-next_hop in
-    let curr-info-field-idx = c.curr_info_field_idx-next_segment in
-    let move-fields = c.move_fields in
+    let curr_hop_field_idx = c.curr_hop_field_idx-next_hop in
+    let curr_info_field_idx = c.curr_info_field_idx-next_segment in
+    let move_fields = c.move_fields in
     let if1 = c.if-change in
-    let set-curr-hop-field = c.set_curr_hop_field in
+    let set_curr_hop_field = c.set_curr_hop_field in
     rw if1.true
-    (rw (set-curr-hop-field.ensures, move-fields.ensures, curr-hop-field-idx.ensures, curr-info-field-idx.ensures) at
+    (rw (set_curr_hop_field.ensures, move_fields.ensures, curr_hop_field_idx.ensures, curr_info_field_idx.ensures) at
     c.set_curr_info_field.ensures)
 
 pub returns-else-change : goal.returns-else-change

@@ -10,5 +10,5 @@ returns-in-Complete c =
 pub returns-in-Failed : goal.returns-in-Failed
 returns-in-Failed c =
     let args = c.args in
-    let check-header = c.check_header in
-    rw (header_law args.path.now, sym check-header.ensures ∙ c.in-Failed.is)
+    let check_header = c.check_header in
+    rw (header_law args.path.now, sym check_header.ensures ∙ c.in-Failed.is)

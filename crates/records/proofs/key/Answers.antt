@@ -8,9 +8,9 @@ pub loop-i-preserved : goal.loop-i-preserved
 loop-i-preserved c =
     let args = c.args in
     let offset = c.offset-at in
-    let loop-test = c.loop-i-test in
+    let loop_test = c.loop-i-test in
     let loop = c.loop-i in
-    tabulated_more 16 (λ k. get_or args.itinerary.now (offset.result + k) 0) _ c.byte_at.ensures loop-test.true loop.invariant
+    tabulated_more 16 (λ k. get_or args.itinerary.now (offset.result + k) 0) _ c.byte_at.ensures loop_test.true loop.invariant
 
 pub returns : goal.returns
 unfolding key_of bytes_of

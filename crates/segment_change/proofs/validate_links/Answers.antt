@@ -15,14 +15,14 @@ pub returns-then-is_allowed_pair : goal.returns-then-is_allowed_pair
 unfolding asks
 returns-then-is_allowed_pair c =
     let listed_in = c.in-State in
-    let listed-out = c.in-State-listed_out in
-    let link-type = c.link_type-in_link in
-    rw (listed_in.is, listed-out.is, ← link-type.ensures, ← c.link_type-out_link.ensures, ← c.is_allowed_pair.ensures, c.if-is_allowed_pair.true)
+    let listed_out = c.in-State-listed_out in
+    let link_type = c.link_type-in_link in
+    rw (listed_in.is, listed_out.is, ← link_type.ensures, ← c.link_type-out_link.ensures, ← c.is_allowed_pair.ensures, c.if-is_allowed_pair.true)
 
 pub returns : goal.returns
 unfolding asks
 returns c =
     let listed_in = c.in-State in
-    let listed-out = c.in-State-listed_out in
-    let link-type = c.link_type-in_link in
-    rw (listed_in.is, listed-out.is, ← link-type.ensures, ← c.link_type-out_link.ensures, ← c.is_allowed_pair.ensures, c.if-is_allowed_pair.false)
+    let listed_out = c.in-State-listed_out in
+    let link_type = c.link_type-in_link in
+    rw (listed_in.is, listed_out.is, ← link_type.ensures, ← c.link_type-out_link.ensures, ← c.is_allowed_pair.ensures, c.if-is_allowed_pair.false)

@@ -7,11 +7,11 @@ use Rattle.validator.proofs.validate_mac.Goals as goal
 pub returns-then-expected-actual : goal.returns-then-expected-actual
 unfolding asks
 returns-then-expected-actual c =
-    let expected-mac = c.expected_mac-expected in
-    rw (eq-eqb _ _ (sym expected-mac.ensures ∙ c.if-expected-actual.true ∙ c.mac_number-actual.ensures ∙ ap mac_number c.mac.ensures))
+    let expected_mac = c.expected_mac-expected in
+    rw (eq-eqb _ _ (sym expected_mac.ensures ∙ c.if-expected-actual.true ∙ c.mac_number-actual.ensures ∙ ap mac_number c.mac.ensures))
 
 pub returns : goal.returns
 unfolding asks
 returns c =
-    let expected-mac = c.expected_mac-expected in
-    rw (← expected-mac.ensures, ← c.mac_number-actual.ensures ∙ ap mac_number c.mac.ensures, ne_eqb _ _ c.if-expected-actual.false)
+    let expected_mac = c.expected_mac-expected in
+    rw (← expected_mac.ensures, ← c.mac_number-actual.ensures ∙ ap mac_number c.mac.ensures, ne_eqb _ _ c.if-expected-actual.false)

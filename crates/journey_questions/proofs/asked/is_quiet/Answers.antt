@@ -10,22 +10,22 @@ loop-index-init c = asked_none _ _
 pub returns-then-not-is_hop_quiet : goal.returns-then-not-is_hop_quiet
 unfolding quiet
 returns-then-not-is_hop_quiet c =
-    let hop-field-count = c.hop_field_count-hops in
+    let hop_field_count = c.hop_field_count-hops in
     let loop = c.loop-index in
-    let loop-test = c.loop-index-test in
-    let hop-field = c.hop_field in
-    rw (← hop-field-count.ensures)
-    (asked_no loop.invariant loop-test.true (rw hop-field.ensures at c.is_hop_quiet.ensures) (ap not c.if-not-is_hop_quiet.true))
+    let loop_test = c.loop-index-test in
+    let hop_field = c.hop_field in
+    rw (← hop_field_count.ensures)
+    (asked_no loop.invariant loop_test.true (rw hop_field.ensures at c.is_hop_quiet.ensures) (ap not c.if-not-is_hop_quiet.true))
 
 pub loop-index-preserved : goal.loop-index-preserved
 loop-index-preserved c =
     let loop = c.loop-index in
-    let loop-test = c.loop-index-test in
-    let hop-field = c.hop_field in
-    asked_yes loop.invariant loop-test.true (rw hop-field.ensures at c.is_hop_quiet.ensures) (ap not c.if-not-is_hop_quiet.false)
+    let loop_test = c.loop-index-test in
+    let hop_field = c.hop_field in
+    asked_yes loop.invariant loop_test.true (rw hop_field.ensures at c.is_hop_quiet.ensures) (ap not c.if-not-is_hop_quiet.false)
 
 pub returns : goal.returns
 unfolding quiet
 returns c =
-    let hop-field-count = c.hop_field_count-hops in
-    rw (← hop-field-count.ensures) (asked_all c.loop-index.invariant c.loop-index-test.false)
+    let hop_field_count = c.hop_field_count-hops in
+    rw (← hop_field_count.ensures) (asked_all c.loop-index.invariant c.loop-index-test.false)

@@ -15,6 +15,6 @@ overflow_add-result c = omega (arith, c.hop_field_count-2.ensures, c.type_inv.pa
 
 pub returns : goal.returns
 returns c =
-    let is-peering-path = c.is_peering_path in
+    let is_peering_path = c.is_peering_path in
     let if1 = c.if-is_peering_path in
-    rw (← is-peering-path.ensures, if1.false, ← c.hop_field_count-2.ensures, ← c.info_field_count.ensures)
+    rw (← is_peering_path.ensures, if1.false, ← c.hop_field_count-2.ensures, ← c.info_field_count.ensures)

@@ -12,8 +12,8 @@ returns-then-curr_hop_field_idx-hop_index c = rw (← c.curr_hop_field_idx.ensur
 pub returns : goal.returns
 returns c =
     let args = c.args in
-    let curr-hop-field-idx = c.curr_hop_field_idx in
+    let curr_hop_field_idx = c.curr_hop_field_idx in
     let if1 = c.if-curr_hop_field_idx-hop_index in
-    let moved : eqb (curr_hf args.path.now) args.hop_index ≡ false = rw (← curr-hop-field-idx.ensures) (ne_eqb _ _ if1.false) in
+    let moved : eqb (curr_hf args.path.now) args.hop_index ≡ false = rw (← curr_hop_field_idx.ensures) (ne_eqb _ _ if1.false) in
     rw moved (c.locate_egress.ensures ∙ placed_by args.edition args.path.now c.peering_fits-fits.ensures
     c.crosses-crossing.ensures)

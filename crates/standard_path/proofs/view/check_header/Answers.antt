@@ -13,24 +13,24 @@ pub returns-then-path-offset : goal.returns-then-path-offset
 unfolding asks header_check header_size
 returns-then-path-offset c =
     let if1 = c.if-path-lt-SIZE_BYTES in
-    let hop-field-count = c.hop_field_count-hops in
-    let e = c.offset.ensures ∙ ap₂ hop_offset c.info_field_count.ensures hop-field-count.ensures in
+    let hop_field_count = c.hop_field_count-hops in
+    let e = c.offset.ensures ∙ ap₂ hop_offset c.info_field_count.ensures hop_field_count.ensures in
     simp (le-leb _ _ if1.false, lt-leb _ _ (rw e at c.if-path-offset.true))
 
 pub returns-then-hops-gt-MAX_TOTAL_HOPS : goal.returns-then-hops-gt-MAX_TOTAL_HOPS
 unfolding asks header_check header_size
 returns-then-hops-gt-MAX_TOTAL_HOPS c =
     let if1 = c.if-path-lt-SIZE_BYTES in
-    let hop-field-count = c.hop_field_count-hops in
-    let info-field-count = c.info_field_count in
-    let e = c.offset.ensures ∙ ap₂ hop_offset info-field-count.ensures hop-field-count.ensures in
-    simp (le-leb _ _ if1.false, le-leb _ _ (rw e at c.if-path-offset.false), lt-leb _ _ (rw hop-field-count.ensures at c.if-hops-gt-MAX_TOTAL_HOPS.true))
+    let hop_field_count = c.hop_field_count-hops in
+    let info_field_count = c.info_field_count in
+    let e = c.offset.ensures ∙ ap₂ hop_offset info_field_count.ensures hop_field_count.ensures in
+    simp (le-leb _ _ if1.false, le-leb _ _ (rw e at c.if-path-offset.false), lt-leb _ _ (rw hop_field_count.ensures at c.if-hops-gt-MAX_TOTAL_HOPS.true))
 
 pub returns : goal.returns
 unfolding asks header_check header_size
 returns c =
     let if1 = c.if-path-lt-SIZE_BYTES in
-    let hop-field-count = c.hop_field_count-hops in
-    let info-field-count = c.info_field_count in
-    let e = c.offset.ensures ∙ ap₂ hop_offset info-field-count.ensures hop-field-count.ensures in
-    simp (le-leb _ _ if1.false, le-leb _ _ (rw e at c.if-path-offset.false), le-leb _ _ (rw hop-field-count.ensures at c.if-hops-gt-MAX_TOTAL_HOPS.false))
+    let hop_field_count = c.hop_field_count-hops in
+    let info_field_count = c.info_field_count in
+    let e = c.offset.ensures ∙ ap₂ hop_offset info_field_count.ensures hop_field_count.ensures in
+    simp (le-leb _ _ if1.false, le-leb _ _ (rw e at c.if-path-offset.false), le-leb _ _ (rw hop_field_count.ensures at c.if-hops-gt-MAX_TOTAL_HOPS.false))
