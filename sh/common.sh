@@ -100,7 +100,7 @@ archive_sum() {
     {
         rt version
         cat crates.txt
-        find crates/*/src crates/*/specs crates/*/proofs -type f \( -name '*.rt' -o -name '*.antt' \) -exec sha256sum {} + | LC_ALL=C sort
+        find crates -name out ! -path 'crates/*/*/*' -prune -o -type f \( -name '*.rt' -o -name '*.antt' \) -exec sha256sum {} + | LC_ALL=C sort
         sha256sum "$archive"
     } | sha256sum
 }
