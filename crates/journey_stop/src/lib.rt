@@ -107,7 +107,7 @@ fn stop_at(reading: Reading, end: JourneyEnd) -> Stop
 
 // ---- the two runs
 
-pub fn stop(
+pub(crate) fn stop(
     form: Form,
     edition: Edition,
     itinerary: &[u8],

@@ -3,13 +3,13 @@
 use mathlib.Core.Path.{◌≡◌, refl, sym, ◌∙◌}
 use mathlib.Core.Bool.{Bool, true, false, not, ◌&&◌, ◌||◌, cond}
 use mathlib.Core.List.{List, ◌∷◌, ◌++◌}
-use Prim.Native.Nat.{ℕ, ◌+◌}
+use Prim.Native.Nat.{ℕ, ◌+◌, ◌<◌}
 use native.Mathlib.Omega.{arith}
-use borrow.Author.Tests.{not-true, not-false}
+use borrow.Author.Tests.{not-true, not-false, eq-eqb, lt-ltb}
 use lib.Dec.{eqb, ltb}
 use Rattle.questions.specs.Questions.{asks, within}
 use Rattle.questions.proofs.Asked.{asks_within}
-use Rattle.standard_path.specs.Meta.{curr_inf, seg0_len, seg1_len, seg2_len}
+use Rattle.standard_path.specs.Meta.{curr_hf, curr_inf, seg0_len, seg1_len, seg2_len}
 use Rattle.standard_path.specs.Header.{infos, hops, header_questions, header_check, segment_of, segment_start, segment_end, segment_among, segment_index}
 use Rattle.standard_path.specs.declared.view.HeaderCheck.{HeaderCheck}
 use Rattle.standard_path.specs.declared.view.HeaderCheck.TheVariants.{Complete, Failed}
@@ -72,6 +72,24 @@ lies_nowhere path h e = go (ltb h (hops path)) refl e
     go : (inside : Bool) → ltb h (hops path) ≡ inside → found path h inside ≡ OutOfBounds → ltb h (hops path) ≡ false
     go true i q = let z : ◌≡◌ {A = ℕ} 0 1 = cc in absurd (omega arith)
     go false i q = i
+
+-- where the current hop lies, by what the segment index answered
+pub here : (path : List ℕ) {hop index : ℕ} {start end : Bool} {answer : SegmentIndex}
+    → hop ≡ curr_hf path → answer ≡ segment_index path hop → answer ≡ At index start end → Lies path (curr_hf path) index start end
+here path h e f = lies path (curr_hf path) (rw h at (sym e ∙ f))
+
+-- and that it lies in no segment
+pub nowhere_here : (path : List ℕ) {hop : ℕ} {answer : SegmentIndex}
+    → hop ≡ curr_hf path → answer ≡ segment_index path hop → answer ≡ OutOfBounds → ltb (curr_hf path) (hops path) ≡ false
+nowhere_here path h e f = lies_nowhere path (curr_hf path) (rw h at (sym e ∙ f))
+
+-- 7 and 8 answered yes, by what was read and compared
+pub index_yes : (path : List ℕ) {index actual : ℕ} → actual ≡ curr_inf path → index ≡ actual → eqb index (curr_inf path) ≡ true
+index_yes path {index} e h = eq-eqb index (curr_inf path) (h ∙ e)
+
+pub infos_yes : (path : List ℕ) {actual count : ℕ} → actual ≡ curr_inf path → count ≡ infos path → actual < count
+    → ltb (curr_inf path) (infos path) ≡ true
+infos_yes path {actual} {count} e f h = rw (e, f) at (lt-ltb actual count h)
 
 -- the test of 6, as the code has it
 module _ {path : List ℕ} {h index : ℕ} {start end : Bool} (l : Lies path h index start end) where

@@ -7,7 +7,8 @@ pub mod layout;
 ghost use Rattle.std.specs.Prelude.{◌≡◌};
 ghost use Rattle.octets.specs.Bytes.{be16_at};
 ghost use Rattle.records.specs.Layout.{layout_of, offset};
-ghost use Rattle.records.specs.Records.{record_count, next_of, arrival_of, first_interface_of, key_of, interface_number_of, interface_state_of};
+ghost use Rattle.records.specs.Records.{record_count, next_of, arrival_of, first_interface_of, key_of};
+ghost use Rattle.records.specs.Records.{interface_number_of, interface_state_of};
 
 use form::Form;
 use layout::RecordLayout;

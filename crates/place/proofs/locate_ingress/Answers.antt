@@ -1,26 +1,18 @@
-use mathlib.Core.Path.{◌≡◌, refl, sym, ◌∙◌}
+use mathlib.Core.Path.{◌≡◌, refl, ◌∙◌}
 use mathlib.Core.Bool.{Bool, true, not, ◌&&◌, ◌||◌}
 use mathlib.Core.List.{List}
 use lib.ListN.{drop}
-use lib.Dec.{eqb, ltb}
-use Prim.Native.Nat.{ℕ}
-use borrow.Author.Tests.{lt-ltb, le-ltb, eq-eqb, ne_eqb}
+use Prim.Native.Nat.{ℕ, ◌<◌}
+use borrow.Author.Tests.{lt-ltb, le-ltb, ne_eqb}
 use Rattle.questions.specs.Questions.{asks}
 use Rattle.standard_path.specs.Meta.{curr_hf, curr_inf}
-use Rattle.standard_path.specs.Header.{infos, segment_index}
-use Rattle.standard_path.specs.declared.view.SegmentIndex.{SegmentIndex}
-use Rattle.standard_path.specs.declared.view.SegmentIndex.TheVariants.{At}
+use Rattle.standard_path.specs.Header.{infos}
 use Rattle.answers.specs.Questions.{first_no}
 use Rattle.edition.specs.declared.Edition.{Edition}
 use Rattle.edition.specs.Edition.{peering_path}
 use Rattle.place.specs.Place.{ingress_place}
-use Rattle.place.proofs.Places.{Lies, lies, lies_nowhere}
+use Rattle.place.proofs.Places.{Lies, here, nowhere_here, index_yes, infos_yes}
 use Rattle.place.proofs.locate_ingress.Goals as goal
-
--- where the current hop lies, by what the segment index answered
-found : (path : List ℕ) {hop index : ℕ} {start end : Bool} {answer : SegmentIndex}
-    → hop ≡ curr_hf path → answer ≡ segment_index path hop → answer ≡ At index start end → Lies path (curr_hf path) index start end
-found path h e f = lies path (curr_hf path) (rw h at (sym e ∙ f))
 
 -- ---- so many questions were answered yes: the others decide
 
@@ -30,14 +22,15 @@ module _ (edition : Edition) (path : List ℕ) {index : ℕ} {start end peers : 
   unfolding asks
   asked_6 = rw (l.inside, l.segment, l.first, l.last, ← p, one) refl
 
-  asked_7 : eqb index (curr_inf path) ≡ true → first_no (ingress_place edition path) ≡ first_no (drop 3 (ingress_place edition path))
+  asked_7 : {actual : ℕ} → actual ≡ curr_inf path → index ≡ actual
+      → first_no (ingress_place edition path) ≡ first_no (drop 3 (ingress_place edition path))
   unfolding asks
-  asked_7 e = asked_6 ∙ rw (l.segment, e) refl
+  asked_7 e same = asked_6 ∙ rw (l.segment, index_yes path e same) refl
 
-  asked_8 : eqb index (curr_inf path) ≡ true → ltb (curr_inf path) (infos path) ≡ true
+  asked_8 : {actual count : ℕ} → actual ≡ curr_inf path → index ≡ actual → count ≡ infos path → actual < count
       → first_no (ingress_place edition path) ≡ first_no (drop 4 (ingress_place edition path))
   unfolding asks
-  asked_8 e f = asked_7 e ∙ rw f refl
+  asked_8 e same n inside = asked_7 e same ∙ rw (infos_yes path e n inside) refl
 
 -- ---- the returns
 
@@ -45,13 +38,13 @@ pub returns-in_default : goal.returns-in_default
 unfolding asks
 returns-in_default c =
     let path = c.args.path.now in
-    rw (lies_nowhere path (curr_hf path) (rw c.curr_hop_field_idx-hop.ensures at (sym c.calculate_segment_index.ensures ∙ c.in_default.is)))
+    rw (nowhere_here path c.curr_hop_field_idx-hop.ensures c.calculate_segment_index.ensures c.in_default.is)
     (rw c.curr_hop_field_idx-hop.ensures at c.failed.ensures)
 
 pub returns-then-not-peers-start : goal.returns-then-not-peers-start
 unfolding asks
 returns-then-not-peers-start c =
-    let l = found c.args.path.now c.curr_hop_field_idx-hop.ensures c.calculate_segment_index.ensures c.in-At.is in
+    let l = here c.args.path.now c.curr_hop_field_idx-hop.ensures c.calculate_segment_index.ensures c.in-At.is in
     rw (
       l.inside,
       l.segment,
@@ -65,7 +58,7 @@ pub returns-then-index-actual : goal.returns-then-index-actual
 unfolding asks
 returns-then-index-actual c =
     let path = c.args.path.now in
-    let l = found path c.curr_hop_field_idx-hop.ensures c.calculate_segment_index.ensures c.in-At.is in
+    let l = here path c.curr_hop_field_idx-hop.ensures c.calculate_segment_index.ensures c.in-At.is in
     rw (
       asked_6 c.args.edition path l c.is_peering_path-peers.ensures c.if-not-peers-start.false,
       l.segment,
@@ -77,10 +70,10 @@ pub returns-then-infos-actual : goal.returns-then-infos-actual
 unfolding asks
 returns-then-infos-actual c =
     let path = c.args.path.now in
-    let l = found path c.curr_hop_field_idx-hop.ensures c.calculate_segment_index.ensures c.in-At.is in
-    let e = rw c.curr_info_field_idx-actual.ensures at (eq-eqb c.in-At.index c.curr_info_field_idx-actual.result c.if-index-actual.false) in
+    let l = here path c.curr_hop_field_idx-hop.ensures c.calculate_segment_index.ensures c.in-At.is in
     rw (
-      asked_7 c.args.edition path l c.is_peering_path-peers.ensures c.if-not-peers-start.false e,
+      asked_7 c.args.edition path l c.is_peering_path-peers.ensures c.if-not-peers-start.false
+          c.curr_info_field_idx-actual.ensures c.if-index-actual.false,
       ← c.curr_info_field_idx-actual.ensures,
       ← c.info_field_count-infos.ensures,
       le-ltb _ _ c.if-infos-actual.true,
@@ -90,12 +83,10 @@ pub returns-then-infos-index : goal.returns-then-infos-index
 unfolding asks
 returns-then-infos-index c =
     let path = c.args.path.now in
-    let l = found path c.curr_hop_field_idx-hop.ensures c.calculate_segment_index.ensures c.in-At.is in
-    let e = rw c.curr_info_field_idx-actual.ensures at (eq-eqb c.in-At.index c.curr_info_field_idx-actual.result c.if-index-actual.false) in
-    let f = rw (c.curr_info_field_idx-actual.ensures, c.info_field_count-infos.ensures) at
-    (lt-ltb c.curr_info_field_idx-actual.result c.info_field_count-infos.result c.if-infos-actual.false) in
+    let l = here path c.curr_hop_field_idx-hop.ensures c.calculate_segment_index.ensures c.in-At.is in
     rw (
-      asked_8 c.args.edition path l c.is_peering_path-peers.ensures c.if-not-peers-start.false e f,
+      asked_8 c.args.edition path l c.is_peering_path-peers.ensures c.if-not-peers-start.false
+          c.curr_info_field_idx-actual.ensures c.if-index-actual.false c.info_field_count-infos.ensures c.if-infos-actual.false,
       l.segment,
       l.last,
       ← c.is_peering_hop-peer.ensures,
@@ -109,12 +100,10 @@ pub returns-then-peer-end : goal.returns-then-peer-end
 unfolding asks
 returns-then-peer-end c =
     let path = c.args.path.now in
-    let l = found path c.curr_hop_field_idx-hop.ensures c.calculate_segment_index.ensures c.in-At.is in
-    let e = rw c.curr_info_field_idx-actual.ensures at (eq-eqb c.in-At.index c.curr_info_field_idx-actual.result c.if-index-actual.false) in
-    let f = rw (c.curr_info_field_idx-actual.ensures, c.info_field_count-infos.ensures) at
-    (lt-ltb c.curr_info_field_idx-actual.result c.info_field_count-infos.result c.if-infos-actual.false) in
+    let l = here path c.curr_hop_field_idx-hop.ensures c.calculate_segment_index.ensures c.in-At.is in
     rw (
-      asked_8 c.args.edition path l c.is_peering_path-peers.ensures c.if-not-peers-start.false e f,
+      asked_8 c.args.edition path l c.is_peering_path-peers.ensures c.if-not-peers-start.false
+          c.curr_info_field_idx-actual.ensures c.if-index-actual.false c.info_field_count-infos.ensures c.if-infos-actual.false,
       l.segment,
       l.last,
       ← c.is_peering_hop-peer.ensures,
@@ -128,12 +117,10 @@ pub returns : goal.returns
 unfolding asks
 returns c =
     let path = c.args.path.now in
-    let l = found path c.curr_hop_field_idx-hop.ensures c.calculate_segment_index.ensures c.in-At.is in
-    let e = rw c.curr_info_field_idx-actual.ensures at (eq-eqb c.in-At.index c.curr_info_field_idx-actual.result c.if-index-actual.false) in
-    let f = rw (c.curr_info_field_idx-actual.ensures, c.info_field_count-infos.ensures) at
-    (lt-ltb c.curr_info_field_idx-actual.result c.info_field_count-infos.result c.if-infos-actual.false) in
+    let l = here path c.curr_hop_field_idx-hop.ensures c.calculate_segment_index.ensures c.in-At.is in
     rw (
-      asked_8 c.args.edition path l c.is_peering_path-peers.ensures c.if-not-peers-start.false e f,
+      asked_8 c.args.edition path l c.is_peering_path-peers.ensures c.if-not-peers-start.false
+          c.curr_info_field_idx-actual.ensures c.if-index-actual.false c.info_field_count-infos.ensures c.if-infos-actual.false,
       l.segment,
       l.last,
       ← c.is_peering_hop-peer.ensures,
