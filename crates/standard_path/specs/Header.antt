@@ -2,13 +2,11 @@
 -- segment that a hop lies in.
 -- Assumes nothing.
 use Rattle.std.specs.Prelude.{ℕ, ◌+◌, Bool, cond, List, [], ◌∷◌, eqb, ltb, leb, length, take, drop}
+use Rattle.std.specs.Prelude.{Option, Some, None, Result, Ok, Err}
 use Rattle.questions.specs.Questions.{Questions, asks}
 use Rattle.fields.specs.Layout.{info_count, hop_count, info_offset, hop_offset}
 use Rattle.standard_path.specs.Meta.{seg0_len, seg1_len, seg2_len}
 use Rattle.standard_path.specs.declared.view.SegmentIndex.{SegmentIndex}
-use Rattle.standard_path.specs.declared.view.SegmentIndex.TheVariants.{At, OutOfBounds}
-use Rattle.standard_path.specs.declared.view.HeaderCheck.{HeaderCheck}
-use Rattle.standard_path.specs.declared.view.HeaderCheck.TheVariants.{Complete, Failed}
 use Rattle.standard_path.specs.declared.view.HeaderError.{HeaderError}
 use Rattle.standard_path.specs.declared.view.HeaderError.TheVariants.{MetaTooShort, DataTooShort, TooManyHops}
 
@@ -49,8 +47,8 @@ header_number MetaTooShort = 2
 header_number DataTooShort = 3
 header_number TooManyHops = 4
 
-unfoldable pub header_check : List ℕ → HeaderCheck
-header_check path = asks Failed (header_questions path) Complete
+unfoldable pub header_check : List ℕ → Result Unit HeaderError
+header_check path = asks Err (header_questions path) (Ok tt)
 
 -- ---- a segment is known by its place among the three lengths, empty ones counted
 
@@ -66,13 +64,16 @@ abbrev pub segment_end : ℕ → ℕ → ℕ → ℕ → ℕ
 segment_end seg0 seg1 seg2 s = cond (eqb s 0) seg0 (cond (eqb s 1) (seg0 + seg1) (seg0 + seg1 + seg2))
 
 -- `calculate_segment_index`: the segment of hop h, and whether the hop is its first, and its last
-unfoldable pub segment_among : ℕ → ℕ → ℕ → ℕ → SegmentIndex
+unfoldable pub segment_among : ℕ → ℕ → ℕ → ℕ → Option SegmentIndex
 segment_among seg0 seg1 seg2 h =
+    let segment = segment_of seg0 seg1 h in
     cond (ltb h (hop_count seg0 seg1 seg2))
-    (At (segment_of seg0 seg1 h)
-    (eqb h (segment_start seg0 seg1 (segment_of seg0 seg1 h)))
-    (eqb (h + 1) (segment_end seg0 seg1 seg2 (segment_of seg0 seg1 h))))
-    OutOfBounds
+    (Some (record {
+      index = segment;
+      start = eqb h (segment_start seg0 seg1 segment);
+      end = eqb (h + 1) (segment_end seg0 seg1 seg2 segment);
+    }))
+    None
 
-unfoldable pub segment_index : List ℕ → ℕ → SegmentIndex
+unfoldable pub segment_index : List ℕ → ℕ → Option SegmentIndex
 segment_index path h = segment_among (seg0_len path) (seg1_len path) (seg2_len path) h

@@ -179,64 +179,59 @@ pub fn header_number(error: HeaderError) -> u8
 }
 
 // Whether the bytes hold the whole header, and it has at most 64 hops.
-#[derive(Clone, Copy)]
-pub enum HeaderCheck {
-    Complete,
-    Failed(HeaderError),
-}
-
-pub fn check_header(path: &[u8]) -> HeaderCheck
+pub fn check_header(path: &[u8]) -> Result<(), HeaderError>
     ensures { result ≡ header_check path.now }
 {
     if path.len() < StdPathMetaLayout::SIZE_BYTES {
-        return HeaderCheck::Failed(HeaderError::MetaTooShort);
+        return Err(HeaderError::MetaTooShort);
     }
     let hops = hop_field_count(path);
     if path.len() < HopFieldLayout::offset(info_field_count(path), hops) {
-        return HeaderCheck::Failed(HeaderError::DataTooShort);
+        return Err(HeaderError::DataTooShort);
     }
     if StdPathMetaLayout::MAX_TOTAL_HOPS < hops {
-        return HeaderCheck::Failed(HeaderError::TooManyHops);
+        return Err(HeaderError::TooManyHops);
     }
-    HeaderCheck::Complete
+    Ok(())
 }
 
-// The segment that a hop lies in, and whether it is the segment's first hop, and its last.
+// The segment that a hop lies in, and whether the hop is its first, and its last.
 #[derive(Clone, Copy)]
-pub enum SegmentIndex {
-    At { index: u8, start: bool, end: bool },
-    OutOfBounds,
+pub struct SegmentIndex {
+    pub index: u8,
+    pub start: bool,
+    pub end: bool,
 }
 
-fn segment_of(seg0: u8, seg1: u8, seg2: u8, hop: u8) -> SegmentIndex
+fn segment_of(seg0: u8, seg1: u8, seg2: u8, hop: u8) -> Option<SegmentIndex>
     requires { (seg0 < 64) × ((seg1 < 64) × (seg2 < 64)) }
     ensures { result ≡ segment_among seg0 seg1 seg2 hop }
 {
     if hop < seg0 {
-        return SegmentIndex::At {
+        return Some(SegmentIndex {
             index: 0,
             start: hop == 0,
             end: hop + 1 == seg0,
-        };
+        });
     }
     if hop < seg0 + seg1 {
-        return SegmentIndex::At {
+        return Some(SegmentIndex {
             index: 1,
             start: hop == seg0,
             end: hop + 1 == seg0 + seg1,
-        };
+        });
     }
     if hop < seg0 + seg1 + seg2 {
-        return SegmentIndex::At {
+        return Some(SegmentIndex {
             index: 2,
             start: hop == seg0 + seg1,
             end: hop + 1 == seg0 + seg1 + seg2,
-        };
+        });
     }
-    SegmentIndex::OutOfBounds
+    None
 }
 
-pub fn calculate_segment_index(path: &[u8], hop_idx: u8) -> SegmentIndex
+pub fn calculate_segment_index(path: &[u8], hop_idx: u8) -> Option<SegmentIndex>
     ensures { result ≡ segment_index path.now hop_idx }
 {
     segment_of(seg0_len(path), seg1_len(path), seg2_len(path), hop_idx)
