@@ -1,6 +1,6 @@
 -- 01, 'Questions in order': the number of each refusal, and the values that it carries, in 01's order; and those of an action.
 -- Assumes nothing.
-use Rattle.std.specs.Prelude.{ℕ, Bool, true, false, List, [], ◌∷◌, get_or}
+use Rattle.std.specs.Prelude.{ℕ, Bool, true, false, List, [], ◌∷◌, length, get_or, Result}
 use Rattle.standard_path.specs.Header.{header_number}
 use Rattle.answers.specs.declared.AdvanceError.{AdvanceError}
 use Rattle.answers.specs.declared.AdvanceError.TheVariants.{HopOutOfBounds, InfoOutOfBounds, InvalidSegmentIndex, SingleHopSegment, SegmentEnd, MisplacedPeering}
@@ -8,8 +8,18 @@ use Rattle.answers.specs.declared.LocalAsRoutingAction.{LocalAsRoutingAction}
 use Rattle.answers.specs.declared.LocalAsRoutingAction.TheVariants.{IngressSCMPHandleRequest, EgressSCMPHandleRequest, ForwardLocal}
 use Rattle.answers.specs.declared.AsRoutingAction.{AsRoutingAction}
 use Rattle.answers.specs.declared.AsRoutingAction.TheVariants.{Local, ForwardNextHop}
+use Rattle.answers.specs.declared.IngressNextAction.{IngressNextAction}
 use Rattle.answers.specs.declared.StandardRoutingError.{StandardRoutingError}
 use Rattle.answers.specs.declared.StandardRoutingError.TheVariants.{UnsoundTable, HeaderFailed, AdvanceFailed, InvalidIngressInterface, InvalidEgressInterface, FutureTimestamp, SegmentExpired, UnknownIngressInterface, UnknownEgressInterface, InvalidMacError, InvalidSegmentChange, EgressInterfaceDown, InvalidScmpAlert}
+use Rattle.answers.specs.declared.number.Values.{Values}
+
+-- what the egress half and the whole step answer
+abbrev pub StepAnswer : Type 0
+StepAnswer = Result AsRoutingAction StandardRoutingError
+
+-- what the ingress half answers
+abbrev pub IngressAnswer : Type 0
+IngressAnswer = Result IngressNextAction StandardRoutingError
 
 abbrev pub advance_number : AdvanceError → ℕ
 advance_number (HopOutOfBounds index) = 5
@@ -65,6 +75,10 @@ refusal_values (InvalidEgressInterface hop expected found c) = hop ∷ expected 
 -- values in four places, 0 in those behind the last
 abbrev pub four_values : List ℕ → List ℕ
 four_values values = get_or values 0 0 ∷ get_or values 1 0 ∷ get_or values 2 0 ∷ get_or values 3 0 ∷ []
+
+-- how many there are, and the places
+abbrev pub values_of : List ℕ → Values
+values_of values = record { count = length values; places = four_values values }
 
 -- ---- what is done with a packet: 01 has no numbers for it, here they are those from 101 on
 

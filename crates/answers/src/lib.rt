@@ -10,6 +10,9 @@
 
 pub mod number;
 
+ghost use Rattle.std.specs.Prelude.{◌≡◌};
+ghost use Rattle.answers.specs.declared.StandardRoutingError.TheVariants.{HeaderFailed, AdvanceFailed};
+
 use standard_path::view::HeaderError;
 
 #[derive(Clone, Copy)]
@@ -90,24 +93,25 @@ pub enum StandardRoutingError {
     },
 }
 
-// What a list of questions comes to: each was answered yes, or the refusal of the first no.
-#[derive(Clone, Copy)]
-pub enum Validation {
-    Valid,
-    Invalid(StandardRoutingError),
+impl From<HeaderError> for StandardRoutingError {
+    ghost from_gives = { λ why refusal. refusal ≡ HeaderFailed why };
+
+    fn from(why: HeaderError) -> StandardRoutingError {
+        StandardRoutingError::HeaderFailed(why)
+    }
 }
 
-// The answer of the ingress half.
+impl From<AdvanceError> for StandardRoutingError {
+    ghost from_gives = { λ why refusal. refusal ≡ AdvanceFailed why };
+
+    fn from(why: AdvanceError) -> StandardRoutingError {
+        StandardRoutingError::AdvanceFailed(why)
+    }
+}
+
+// What the ingress half comes to, if it does not refuse.
 #[derive(Clone, Copy)]
 pub enum IngressNextAction {
     ContinueEgress { egress_interface_id: u16 },
     Complete(AsRoutingAction),
-    Refused(StandardRoutingError),
-}
-
-// The answer of the egress half and of the whole step.
-#[derive(Clone, Copy)]
-pub enum StepAnswer {
-    Action(AsRoutingAction),
-    Refused(StandardRoutingError),
 }

@@ -1,6 +1,6 @@
 // The number of an answer, and the values that it carries, for whoever has to write them down: 01's for a refusal.
-ghost use Rattle.std.specs.Prelude.{◌≡◌, length};
-ghost use Rattle.answers.specs.Answer.{advance_number, refusal_number, flag, four_values, advance_values, refusal_values};
+ghost use Rattle.std.specs.Prelude.{◌≡◌, ◌≤◌, length};
+ghost use Rattle.answers.specs.Answer.{advance_number, refusal_number, flag, values_of, advance_values, refusal_values};
 ghost use Rattle.answers.specs.Answer.{local_number, action_number, local_values, action_values};
 
 use crate::{AdvanceError, AsRoutingAction, LocalAsRoutingAction, StandardRoutingError};
@@ -43,117 +43,104 @@ pub fn refusal_number(why: StandardRoutingError) -> u8
 
 // ---- the values
 
-pub fn flag(is_set: bool) -> u64
-    ensures { result ≡ flag is_set }
-{
-    if is_set { 1 } else { 0 }
+// The values of an answer, in 01's order: how many there are, and 0 in the places behind the last.
+#[derive(Clone, Copy)]
+pub struct Values {
+    pub count: u8,
+    pub places: [u64; 4],
 }
 
-fn advance_values(why: AdvanceError) -> [u64; 4]
-    ensures { result ≡ four_values (advance_values why) }
-{
-    match why {
-        AdvanceError::HopOutOfBounds(index) => [index as u64, 0, 0, 0],
-        AdvanceError::SingleHopSegment => [0, 0, 0, 0],
-        AdvanceError::InvalidSegmentIndex { expected, actual } => {
-            [expected as u64, actual as u64, 0, 0]
+impl Values {
+    fn of(values: &[u64]) -> Values
+        requires { length values.now ≤ 4 }
+        ensures { result ≡ values_of values.now }
+    {
+        Values {
+            count: values.len() as u8,
+            places: std::array::from_fn(|i| values.get(i).copied().unwrap_or(0)),
         }
-        AdvanceError::InfoOutOfBounds(index) => [index as u64, 0, 0, 0],
-        AdvanceError::SegmentEnd => [0, 0, 0, 0],
-        AdvanceError::MisplacedPeering => [0, 0, 0, 0],
     }
 }
 
-// Four places, 0 in those behind the last value.
-pub fn refusal_values(why: StandardRoutingError) -> [u64; 4]
-    ensures { result ≡ four_values (refusal_values why) }
+pub fn flag(is_set: bool) -> u64
+    ensures { result ≡ flag is_set }
+{
+    u64::from(is_set)
+}
+
+fn advance_values(why: AdvanceError) -> Values
+    ensures { result ≡ values_of (advance_values why) }
 {
     match why {
-        StandardRoutingError::UnsoundTable => [0, 0, 0, 0],
-        StandardRoutingError::HeaderFailed(_) => [0, 0, 0, 0],
+        AdvanceError::HopOutOfBounds(index) | AdvanceError::InfoOutOfBounds(index) => {
+            Values::of(&[u64::from(index)])
+        }
+        AdvanceError::InvalidSegmentIndex { expected, actual } => {
+            Values::of(&[u64::from(expected), u64::from(actual)])
+        }
+        AdvanceError::SingleHopSegment
+        | AdvanceError::SegmentEnd
+        | AdvanceError::MisplacedPeering => Values::of(&[]),
+    }
+}
+
+pub fn refusal_values(why: StandardRoutingError) -> Values
+    ensures { result ≡ values_of (refusal_values why) }
+{
+    match why {
+        StandardRoutingError::UnsoundTable | StandardRoutingError::HeaderFailed(_) => {
+            Values::of(&[])
+        }
         StandardRoutingError::AdvanceFailed(why) => advance_values(why),
         StandardRoutingError::InvalidIngressInterface {
             hop_index,
             expected,
             found,
             cons_dir,
-        } => [
-            hop_index as u64,
-            expected as u64,
-            found as u64,
+        } => Values::of(&[
+            u64::from(hop_index),
+            u64::from(expected),
+            u64::from(found),
             flag(cons_dir),
-        ],
-        StandardRoutingError::FutureTimestamp { hop_index } => [hop_index as u64, 0, 0, 0],
-        StandardRoutingError::SegmentExpired { hop_index } => [hop_index as u64, 0, 0, 0],
+        ]),
+        StandardRoutingError::FutureTimestamp { hop_index } => Values::of(&[u64::from(hop_index)]),
+        StandardRoutingError::SegmentExpired { hop_index } => Values::of(&[u64::from(hop_index)]),
         StandardRoutingError::InvalidMacError {
             hop_index,
             expected,
             actual,
-        } => [hop_index as u64, expected, actual, 0],
+        } => Values::of(&[u64::from(hop_index), expected, actual]),
         StandardRoutingError::InvalidScmpAlert {
             hop_index,
             cons_dir,
-        } => [hop_index as u64, flag(cons_dir), 0, 0],
+        } => Values::of(&[u64::from(hop_index), flag(cons_dir)]),
         StandardRoutingError::UnknownIngressInterface {
             hop_index,
             if_id,
             cons_dir,
-        } => [hop_index as u64, if_id as u64, flag(cons_dir), 0],
+        } => Values::of(&[u64::from(hop_index), u64::from(if_id), flag(cons_dir)]),
         StandardRoutingError::UnknownEgressInterface {
             hop_index,
             if_id,
             cons_dir,
-        } => [hop_index as u64, if_id as u64, flag(cons_dir), 0],
-        StandardRoutingError::InvalidSegmentChange { hop_index } => [hop_index as u64, 0, 0, 0],
+        } => Values::of(&[u64::from(hop_index), u64::from(if_id), flag(cons_dir)]),
+        StandardRoutingError::InvalidSegmentChange { hop_index } => Values::of(&[u64::from(
+            hop_index,
+        )]),
         StandardRoutingError::EgressInterfaceDown { hop_index, if_id } => {
-            [hop_index as u64, if_id as u64, 0, 0]
+            Values::of(&[u64::from(hop_index), u64::from(if_id)])
         }
         StandardRoutingError::InvalidEgressInterface {
             hop_index,
             expected,
             found,
             cons_dir,
-        } => [
-            hop_index as u64,
-            expected as u64,
-            found as u64,
+        } => Values::of(&[
+            u64::from(hop_index),
+            u64::from(expected),
+            u64::from(found),
             flag(cons_dir),
-        ],
-    }
-}
-
-// ---- how many values there are
-
-fn advance_value_count(why: AdvanceError) -> u8
-    ensures { result ≡ length (advance_values why) }
-{
-    match why {
-        AdvanceError::HopOutOfBounds(_) => 1,
-        AdvanceError::SingleHopSegment => 0,
-        AdvanceError::InvalidSegmentIndex { .. } => 2,
-        AdvanceError::InfoOutOfBounds(_) => 1,
-        AdvanceError::SegmentEnd => 0,
-        AdvanceError::MisplacedPeering => 0,
-    }
-}
-
-pub fn refusal_value_count(why: StandardRoutingError) -> u8
-    ensures { result ≡ length (refusal_values why) }
-{
-    match why {
-        StandardRoutingError::UnsoundTable => 0,
-        StandardRoutingError::HeaderFailed(_) => 0,
-        StandardRoutingError::AdvanceFailed(why) => advance_value_count(why),
-        StandardRoutingError::InvalidIngressInterface { .. } => 4,
-        StandardRoutingError::FutureTimestamp { .. } => 1,
-        StandardRoutingError::SegmentExpired { .. } => 1,
-        StandardRoutingError::InvalidMacError { .. } => 3,
-        StandardRoutingError::InvalidScmpAlert { .. } => 2,
-        StandardRoutingError::UnknownIngressInterface { .. } => 3,
-        StandardRoutingError::UnknownEgressInterface { .. } => 3,
-        StandardRoutingError::InvalidSegmentChange { .. } => 1,
-        StandardRoutingError::EgressInterfaceDown { .. } => 2,
-        StandardRoutingError::InvalidEgressInterface { .. } => 4,
+        ]),
     }
 }
 
@@ -178,46 +165,25 @@ pub fn action_number(action: AsRoutingAction) -> u8
     }
 }
 
-fn local_values(action: LocalAsRoutingAction) -> [u64; 4]
-    ensures { result ≡ four_values (local_values action) }
+fn local_values(action: LocalAsRoutingAction) -> Values
+    ensures { result ≡ values_of (local_values action) }
 {
     match action {
-        LocalAsRoutingAction::ForwardLocal => [0, 0, 0, 0],
-        LocalAsRoutingAction::IngressSCMPHandleRequest { interface_id } => {
-            [interface_id as u64, 0, 0, 0]
-        }
-        LocalAsRoutingAction::EgressSCMPHandleRequest { interface_id } => {
-            [interface_id as u64, 0, 0, 0]
+        LocalAsRoutingAction::ForwardLocal => Values::of(&[]),
+        LocalAsRoutingAction::IngressSCMPHandleRequest { interface_id }
+        | LocalAsRoutingAction::EgressSCMPHandleRequest { interface_id } => {
+            Values::of(&[u64::from(interface_id)])
         }
     }
 }
 
-pub fn action_values(action: AsRoutingAction) -> [u64; 4]
-    ensures { result ≡ four_values (action_values action) }
+pub fn action_values(action: AsRoutingAction) -> Values
+    ensures { result ≡ values_of (action_values action) }
 {
     match action {
         AsRoutingAction::ForwardNextHop {
             egress_interface_id,
-        } => [egress_interface_id as u64, 0, 0, 0],
+        } => Values::of(&[u64::from(egress_interface_id)]),
         AsRoutingAction::Local(action) => local_values(action),
-    }
-}
-
-fn local_value_count(action: LocalAsRoutingAction) -> u8
-    ensures { result ≡ length (local_values action) }
-{
-    match action {
-        LocalAsRoutingAction::ForwardLocal => 0,
-        LocalAsRoutingAction::IngressSCMPHandleRequest { .. } => 1,
-        LocalAsRoutingAction::EgressSCMPHandleRequest { .. } => 1,
-    }
-}
-
-pub fn action_value_count(action: AsRoutingAction) -> u8
-    ensures { result ≡ length (action_values action) }
-{
-    match action {
-        AsRoutingAction::ForwardNextHop { .. } => 1,
-        AsRoutingAction::Local(action) => local_value_count(action),
     }
 }
