@@ -18,13 +18,15 @@ pub enum Edition {
 }
 
 // For callers that know no enum of Rattle.
-pub fn edition_of(is_second: bool) -> Edition
-    ensures { result ≡ edition_of is_second }
-{
-    if is_second {
-        Edition::Second
-    } else {
-        Edition::First
+impl From<bool> for Edition {
+    ghost from_gives = { λ is_second edition. edition ≡ edition_of is_second };
+
+    fn from(is_second: bool) -> Edition {
+        if is_second {
+            Edition::Second
+        } else {
+            Edition::First
+        }
     }
 }
 
@@ -42,6 +44,7 @@ fn is_peering(path: &[u8], info: u8) -> bool
     fields::peering(view::info_field(path, info))
 }
 
+#[tactic(auto, unfolding(crate::specs::Edition::peering_form))]
 fn has_peering_form(path: &[u8]) -> bool
     ensures { result ≡ peering_form path.now }
 {
@@ -71,19 +74,13 @@ fn ends_first_segment(path: &[u8], hop: u8) -> bool
 pub fn is_first_peering_hop(edition: Edition, path: &[u8], hop: u8) -> bool
     ensures { result ≡ first_peering_hop edition path.now hop }
 {
-    if is_peering_path(edition, path) {
-        return ends_first_segment(path, hop);
-    }
-    false
+    is_peering_path(edition, path) && ends_first_segment(path, hop)
 }
 
 pub fn is_peering_hop(edition: Edition, path: &[u8], hop: u8) -> bool
     ensures { result ≡ peering_hop edition path.now hop }
 {
-    if is_peering_path(edition, path) {
-        return ends_first_segment(path, hop) | (hop == view::seg0_len(path));
-    }
-    false
+    is_peering_path(edition, path) && (ends_first_segment(path, hop) || hop == view::seg0_len(path))
 }
 
 // ---- question 28
@@ -94,6 +91,7 @@ fn is_flagged(path: &[u8], info: u8) -> bool
     (info < view::info_field_count(path)) & is_peering(path, info)
 }
 
+#[tactic(auto, unfolding(crate::specs::Edition::peering_placed))]
 fn is_peering_placed(path: &[u8]) -> bool
     ensures { result ≡ peering_placed path.now }
 {
