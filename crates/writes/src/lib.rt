@@ -14,13 +14,15 @@ ghost use Rattle.writes.specs.Writes.{set_seg_id, without_egress, without_ingres
 use fields::layout::InfoFieldLayout;
 
 // The SegID of the info field with this index.
+#[tactic(auto, unfolding(crate::specs::Writes::set_seg_id))]
 pub fn set_segment_id(path: &mut [u8], index: u8, value: u16)
     ensures { path.new ≡ set_seg_id path.old index value }
 {
     let at = InfoFieldLayout::offset(index);
     let high = InfoFieldLayout::SEGMENT_ID as usize;
-    octets::put_byte(path, at + high, (value / 0x100) as u8);
-    octets::put_byte(path, at + (high + 1), (value % 0x100) as u8);
+    let [first, second] = value.to_be_bytes();
+    octets::put_byte(path, at + high, first);
+    octets::put_byte(path, at + (high + 1), second);
 }
 
 // The flags without the ConsIngress alert, or without the ConsEgress alert.
