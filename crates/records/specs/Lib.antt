@@ -1,3 +1,4 @@
 pub mod Layout
 pub mod Records
+pub mod Chain
 pub mod Inner

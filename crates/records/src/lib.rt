@@ -1,90 +1,165 @@
-// The fields of an itinerary's records, one function for each, on all inputs: a byte past the end counts as 0.
+// The fields of an itinerary's records, one method for each, on all inputs: a byte past the end counts as 0. A chain is an iterator.
 #![tactic(auto)]
 
 pub mod form;
 pub mod layout;
 
 ghost use Rattle.std.specs.Prelude.{◌≡◌};
+ghost use Rattle.std.specs.Iterator.{YieldsFirst, item_count};
 ghost use Rattle.octets.specs.Bytes.{be16_at};
 ghost use Rattle.records.specs.Layout.{layout_of, offset};
 ghost use Rattle.records.specs.Records.{record_count, next_of, arrival_of, first_interface_of, key_of};
 ghost use Rattle.records.specs.Records.{interface_number_of, interface_state_of};
+ghost use Rattle.records.specs.Records.{chain_within, chain, station_records, table_records};
+ghost use Rattle.records.specs.Inner.{station_records_within, table_records_within};
+ghost use Rattle.records.specs.Chain.{records_left};
 
 use form::Form;
 use layout::RecordLayout;
 
-pub fn record_count(form: Form, itinerary: &[u8]) -> usize
-    ensures { result ≡ record_count (layout_of form) itinerary.now }
-{
-    itinerary.len() / form.record_bytes()
+#[derive(Clone, Copy)]
+pub struct Itinerary<'a> {
+    pub form: Form,
+    pub bytes: &'a [u8],
 }
 
-fn u16_field(form: Form, itinerary: &[u8], index: u32, field: u8) -> u16
-    ensures { result ≡ be16_at itinerary.now (offset (layout_of form) index field) }
-{
-    let at = form.offset(index, field);
-    octets::u16_from_be_bytes(
-        octets::byte_at(itinerary, at),
-        octets::byte_at(itinerary, at + 1),
-    )
-}
+impl<'a> Itinerary<'a> {
+    pub fn record_count(self) -> usize
+        ensures { result ≡ record_count (layout_of self.entry.form) self.entry.bytes.now }
+    {
+        self.bytes.len() / self.form.record_bytes()
+    }
 
-// How an index is read differs by form.
-fn index_field(form: Form, itinerary: &[u8], index: u32, field: u8) -> u32
-    ensures { result ≡ (layout_of form).index_at itinerary.now (offset (layout_of form) index field) }
-{
-    match form {
-        Form::Narrow => u16_field(form, itinerary, index, field) as u32,
+    fn u16_field(self, index: u32, field: u8) -> u16
+        ensures { result ≡ be16_at self.entry.bytes.now (offset (layout_of self.entry.form) index field) }
+    {
+        let at = self.form.offset(index, field);
+        u16::from_be_bytes([
+            octets::byte_at(self.bytes, at),
+            octets::byte_at(self.bytes, at + 1),
+        ])
+    }
+
+    // How an index is read differs by form.
+    fn index_field(self, index: u32, field: u8) -> u32
+        ensures { result ≡ (layout_of self.entry.form).index_at self.entry.bytes.now (offset (layout_of self.entry.form) index field) }
+    {
+        match self.form {
+            Form::Narrow => self.u16_field(index, field) as u32,
+        }
+    }
+
+    // ---- any record
+
+    // The record after this one in its chain, 0 after the last; the first station's for record 0.
+    pub fn next(self, index: u32) -> u32
+        ensures { result ≡ next_of (layout_of self.entry.form) self.entry.bytes.now index }
+    {
+        self.index_field(index, RecordLayout::NEXT)
+    }
+
+    // ---- a station
+
+    pub fn arrival(self, station: u32) -> u16
+        ensures { result ≡ arrival_of (layout_of self.entry.form) self.entry.bytes.now station }
+    {
+        self.u16_field(station, self.form.arrival())
+    }
+
+    // Where the station's table starts, 0 for an empty one.
+    pub fn first_interface(self, station: u32) -> u32
+        ensures { result ≡ first_interface_of (layout_of self.entry.form) self.entry.bytes.now station }
+    {
+        self.index_field(station, self.form.first_interface())
+    }
+
+    pub fn key(self, station: u32) -> [u8; 16]
+        ensures { result ≡ key_of (layout_of self.entry.form) self.entry.bytes.now station }
+    {
+        let at = self.form.offset(station, self.form.key());
+        std::array::from_fn(|i| octets::byte_at(self.bytes, at + i))
+    }
+
+    // ---- an interface record
+
+    pub fn interface_number(self, index: u32) -> u16
+        ensures { result ≡ interface_number_of (layout_of self.entry.form) self.entry.bytes.now index }
+    {
+        self.u16_field(index, self.form.number())
+    }
+
+    pub fn interface_state(self, index: u32) -> u8
+        ensures { result ≡ interface_state_of (layout_of self.entry.form) self.entry.bytes.now index }
+    {
+        octets::byte_at(self.bytes, self.form.offset(index, self.form.state()))
+    }
+
+    // ---- the records of a chain, from one on
+
+    pub fn chain(self, first: u32) -> Chain<'a>
+        ensures { records_left result ≡ chain (layout_of self.entry.form) self.entry.bytes.now first }
+    {
+        self.chain_within(first, self.record_count())
+    }
+
+    // No more of it than the limit.
+    pub fn chain_within(self, first: u32, limit: usize) -> Chain<'a>
+        ensures { records_left result ≡ chain_within (layout_of self.entry.form) self.entry.bytes.now limit first }
+    {
+        Chain {
+            itinerary: self,
+            index: first,
+            left: limit,
+        }
+    }
+
+    pub fn station_records(self) -> Chain<'a>
+        ensures { records_left result ≡ station_records (layout_of self.entry.form) self.entry.bytes.now }
+    {
+        self.chain(self.next(0))
+    }
+
+    pub fn station_records_within(self, limit: usize) -> Chain<'a>
+        ensures { records_left result ≡ station_records_within (layout_of self.entry.form) self.entry.bytes.now limit }
+    {
+        self.chain_within(self.next(0), limit)
+    }
+
+    pub fn table_records(self, station: u32) -> Chain<'a>
+        ensures { records_left result ≡ table_records (layout_of self.entry.form) self.entry.bytes.now station }
+    {
+        self.chain(self.first_interface(station))
+    }
+
+    pub fn table_records_within(self, station: u32, limit: usize) -> Chain<'a>
+        ensures { records_left result ≡ table_records_within (layout_of self.entry.form) self.entry.bytes.now limit station }
+    {
+        self.chain_within(self.first_interface(station), limit)
     }
 }
 
-// ---- any record
-
-// The record after this one in its chain, 0 after the last; the first station's for record 0.
-pub fn next(form: Form, itinerary: &[u8], index: u32) -> u32
-    ensures { result ≡ next_of (layout_of form) itinerary.now index }
-{
-    index_field(form, itinerary, index, RecordLayout::NEXT)
+// The records of a chain. It may still go through so many, whatever the bytes.
+#[derive(Clone, Copy)]
+pub struct Chain<'a> {
+    itinerary: Itinerary<'a>,
+    index: u32,
+    left: usize,
 }
 
-// ---- a station
+impl<'a> Iterator for Chain<'a> {
+    type Item = u32;
 
-pub fn arrival(form: Form, itinerary: &[u8], station: u32) -> u16
-    ensures { result ≡ arrival_of (layout_of form) itinerary.now station }
-{
-    u16_field(form, itinerary, station, form.arrival())
-}
+    ghost next_gives = { YieldsFirst records_left };
 
-// Where the station's table starts, 0 for an empty one.
-pub fn first_interface(form: Form, itinerary: &[u8], station: u32) -> u32
-    ensures { result ≡ first_interface_of (layout_of form) itinerary.now station }
-{
-    index_field(form, itinerary, station, form.first_interface())
-}
+    ghost remaining = { item_count records_left };
 
-pub fn key(form: Form, itinerary: &[u8], station: u32) -> [u8; 16]
-    ensures { result ≡ key_of (layout_of form) itinerary.now station }
-{
-    let at = form.offset(station, form.key());
-    let mut key = [0; 16];
-    let mut i = 0;
-    while i < 16 {
-        key[i] = octets::byte_at(itinerary, at + i);
-        i += 1;
+    fn next(&mut self) -> Option<u32> {
+        if self.left == 0 || self.index == 0 {
+            return None;
+        }
+        let index = self.index;
+        self.index = self.itinerary.next(index);
+        self.left -= 1;
+        Some(index)
     }
-    key
-}
-
-// ---- an interface record
-
-pub fn interface_number(form: Form, itinerary: &[u8], index: u32) -> u16
-    ensures { result ≡ interface_number_of (layout_of form) itinerary.now index }
-{
-    u16_field(form, itinerary, index, form.number())
-}
-
-pub fn interface_state(form: Form, itinerary: &[u8], index: u32) -> u8
-    ensures { result ≡ interface_state_of (layout_of form) itinerary.now index }
-{
-    octets::byte_at(itinerary, form.offset(index, form.state()))
 }

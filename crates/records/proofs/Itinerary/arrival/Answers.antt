@@ -1,5 +1,5 @@
 use Rattle.records.specs.Records.{arrival_of}
-use Rattle.records.proofs.arrival.Goals as goal
+use Rattle.records.proofs.Itinerary.arrival.Goals as goal
 
 pub returns : goal.returns
 unfolding arrival_of

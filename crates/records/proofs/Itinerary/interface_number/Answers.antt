@@ -1,5 +1,5 @@
 use Rattle.records.specs.Records.{interface_number_of}
-use Rattle.records.proofs.interface_number.Goals as goal
+use Rattle.records.proofs.Itinerary.interface_number.Goals as goal
 
 pub returns : goal.returns
 unfolding interface_number_of

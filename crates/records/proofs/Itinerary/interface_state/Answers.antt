@@ -1,5 +1,5 @@
 use Rattle.records.specs.Records.{interface_state_of}
-use Rattle.records.proofs.interface_state.Goals as goal
+use Rattle.records.proofs.Itinerary.interface_state.Goals as goal
 
 pub returns : goal.returns
 unfolding interface_state_of

@@ -1,5 +1,5 @@
 use Rattle.records.specs.Records.{record_count}
-use Rattle.records.proofs.record_count.Goals as goal
+use Rattle.records.proofs.Itinerary.record_count.Goals as goal
 
 pub returns : goal.returns
 unfolding record_count

@@ -1,5 +1,5 @@
 use Rattle.records.specs.Records.{first_interface_of}
-use Rattle.records.proofs.first_interface.Goals as goal
+use Rattle.records.proofs.Itinerary.first_interface.Goals as goal
 
 pub returns : goal.returns
 unfolding first_interface_of

@@ -1,5 +1,5 @@
 use Rattle.records.specs.Records.{next_of}
-use Rattle.records.proofs.next.Goals as goal
+use Rattle.records.proofs.Itinerary.next.Goals as goal
 
 pub returns : goal.returns
 unfolding next_of
