@@ -7,6 +7,7 @@ use Prim.Native.Nat.{ℕ, ◌+◌, ◌≤◌, ◌<◌, min}
 use native.Mathlib.Omega.{arith}
 use borrow.Author.Tests.{eqb-true, eqb-false, ltb-true, not-true}
 use lib.Dec.{eqb, ltb}
+use Rattle.std.specs.Prelude.{Ok, Err}
 use Rattle.questions.specs.Questions.{asks}
 use Rattle.octets.proofs.Bools.{first_of, second_of}
 use Rattle.standard_path.specs.Meta.{seg0_len, seg1_len, seg2_len}
@@ -16,7 +17,6 @@ use Rattle.standard_path.proofs.Kept.{Kept, infos_kept}
 use Rattle.answers.specs.Questions.{first_no}
 use Rattle.answers.specs.declared.AdvanceError.TheVariants.{MisplacedPeering}
 use Rattle.answers.specs.declared.StandardRoutingError.TheVariants.{AdvanceFailed}
-use Rattle.answers.specs.declared.Validation.TheVariants.{Valid, Invalid}
 use Rattle.answers.proofs.Asked.{first_yes, both_yes, none_asked}
 use Rattle.edition.specs.declared.Edition.{Edition}
 use Rattle.edition.specs.declared.Edition.TheVariants.{First, Second}
@@ -135,16 +135,16 @@ module _ (path : List ℕ) (without : (i : ℕ) → i < infos path → peering (
 
 -- ---- 28 by its rule
 
-pub fits_valid : (edition : Edition) (path : List ℕ) → peering_fits edition path ≡ true → first_no (peering_questions edition path) ≡ Valid
+pub fits_valid : (edition : Edition) (path : List ℕ) → peering_fits edition path ≡ true → first_no (peering_questions edition path) ≡ Ok tt
 fits_valid First path e = none_asked
 fits_valid Second path e = both_yes _ _ _ e none_asked
 
-pub valid_fits : (edition : Edition) (path : List ℕ) → first_no (peering_questions edition path) ≡ Valid → peering_fits edition path ≡ true
+pub valid_fits : (edition : Edition) (path : List ℕ) → first_no (peering_questions edition path) ≡ Ok tt → peering_fits edition path ≡ true
 valid_fits First path e = refl
 valid_fits Second path e = first_yes _ _ _ e
 
 pub unfit_invalid : (edition : Edition) (path : List ℕ) → peering_fits edition path ≡ false
-    → first_no (peering_questions edition path) ≡ Invalid (AdvanceFailed MisplacedPeering)
+    → first_no (peering_questions edition path) ≡ Err (AdvanceFailed MisplacedPeering)
 unfolding asks
 unfit_invalid First path e = let z : ◌≡◌ {A = ℕ} 0 1 = cc in absurd (omega arith)
 unfit_invalid Second path e = rw e
