@@ -9,6 +9,7 @@ use lib.Dec.{leb}
 use borrow.Author.Tests.{leb-true}
 use lib.ListN.{length, get_or, take, drop, length-set}
 use lib.Seq.{take-add, drop_at, length-take-le, drop-set-lt, get_or-take}
+use Rattle.std.specs.Prelude.{Result, Ok, Err}
 use Rattle.fields.specs.Layout.{info_offset, hop_offset}
 use Rattle.questions.specs.Questions.{asks}
 use Rattle.standard_path.specs.Meta.{curr_inf, curr_hf, seg0_len, seg1_len, seg2_len, set_curr_inf, set_curr_hf}
@@ -17,8 +18,7 @@ use Rattle.standard_path.proofs.IndexSet.{set_hf_kept, set_hf_byte, set_inf_byte
 use Rattle.segments.specs.Segments.{segments, segment_count}
 use Rattle.reverse_parts.specs.Parts.{swap_lengths, toggle_cons_dirs, reverse_fields, reverse_parts}
 use Rattle.reverse.specs.Reverse.{reversed, bytes_left, reverse_answer, reverse_bytes}
-use Rattle.reverse.specs.declared.Reversal.{Reversal}
-use Rattle.reverse.specs.declared.Reversal.TheVariants.{Reversed, Failed}
+use Rattle.reverse.specs.declared.PathReverseError.{PathReverseError}
 use Rattle.reverse.specs.declared.PathReverseError.TheVariants.{HeaderFailed, NoSegments, HopOutOfBounds, InfoOutOfBounds}
 use Rattle.reverse_parts.proofs.FieldOrder.{length_reverse_fields, before_fields, behind_fields, reversed_field}
 use Rattle.segments.proofs.Walk.{count_at_most}
@@ -193,12 +193,12 @@ module _ (path : List ℕ) where
   unfolding reverse_bytes bytes_left
   by_answer P same swapped turned = go (reverse_answer path) refl
     where
-      go : (r : Reversal) → reverse_answer path ≡ r → P (bytes_left r path)
-      go Reversed e = turned (reversible path e)
-      go (Failed (HeaderFailed error)) e = same
-      go (Failed NoSegments) e = same
-      go (Failed HopOutOfBounds) e = swapped
-      go (Failed InfoOutOfBounds) e = swapped
+      go : (r : Result Unit PathReverseError) → reverse_answer path ≡ r → P (bytes_left r path)
+      go (Ok done) e = turned (reversible path e)
+      go (Err (HeaderFailed error)) e = same
+      go (Err NoSegments) e = same
+      go (Err HopOutOfBounds) e = swapped
+      go (Err InfoOutOfBounds) e = swapped
 
   pub length_reverse_bytes : length (reverse_bytes path) ≡ length path
   length_reverse_bytes = by_answer (λ l. length l ≡ length path) refl (length_swap_lengths path) (length_reversed path)

@@ -1,6 +1,6 @@
 -- The answers of a reversal: each from what was asked, and what `Reversed` says of the path.
 -- Assumes nothing.
-use mathlib.Core.Path.{◌≡◌, refl, sym, ◌∙◌}
+use mathlib.Core.Path.{◌≡◌, refl, sym, ap, ◌∙◌}
 use mathlib.Core.Bool.{Bool, true, false, not, cond}
 use mathlib.Core.List.{List}
 use Prim.Native.Nat.{ℕ, ◌≤◌, ◌<◌}
@@ -8,6 +8,7 @@ use native.Mathlib.Omega.{arith}
 use lib.Dec.{eqb, ltb}
 use lib.ListN.{length}
 use borrow.Author.Tests.{leb-true, ltb-true, eqb-false, eq-eqb, ne_eqb, le-ltb, lt-ltb}
+use Rattle.std.specs.Prelude.{Result, Ok, Err}
 use Rattle.questions.specs.Questions.{asks, within}
 use Rattle.questions.proofs.Asked.{asks_append, asks_within}
 use Rattle.standard_path.specs.Meta.{curr_inf, curr_hf, seg0_len}
@@ -19,11 +20,8 @@ use Rattle.reverse_parts.specs.Inner.{reverse_parts_there}
 use Rattle.reverse_parts.proofs.FieldOrder.{parts_there}
 use Rattle.reverse_parts.proofs.ReversedLengths.{length_swap_lengths}
 use Rattle.reverse.specs.Reverse.{index_questions, reverse_answer}
-use Rattle.standard_path.specs.declared.view.HeaderCheck.{HeaderCheck}
-use Rattle.standard_path.specs.declared.view.HeaderCheck.TheVariants.{Complete}
-use Rattle.standard_path.specs.declared.view.HeaderCheck.TheVariants as header
-use Rattle.reverse.specs.declared.Reversal.{Reversal}
-use Rattle.reverse.specs.declared.Reversal.TheVariants.{Reversed, Failed}
+use Rattle.standard_path.specs.declared.view.HeaderError.{HeaderError}
+use Rattle.reverse.specs.declared.PathReverseError.{PathReverseError}
 use Rattle.reverse.specs.declared.PathReverseError.TheVariants.{HeaderFailed, NoSegments, HopOutOfBounds, InfoOutOfBounds}
 
 -- what a complete header says
@@ -34,28 +32,34 @@ pub record Whole (path : List ℕ) : Type 0 where
 
 -- a path that is turned around
 pub record Reversible (path : List ℕ) : Type 0 where
-  pub complete : header_check path ≡ Complete
+  pub complete : header_check path ≡ Ok tt
   pub segments : seg0_len path ≡ 0 → ⊥
   pub hop : curr_hf path < hops path
   pub info : curr_inf path < segment_count path
 
 -- 20, 21 and 22, once the header is complete
-abbrev pub asked : List ℕ → Reversal
-asked path = asks Failed (index_questions path) Reversed
+abbrev pub asked : List ℕ → Result Unit PathReverseError
+asked path = asks Err (index_questions path) (Ok tt)
 
-abbrev pub after_header : HeaderCheck → Reversal → Reversal
-after_header Complete after = after
-after_header (header.Failed error) after = Failed (HeaderFailed error)
+abbrev pub after_header : Result Unit HeaderError → Result Unit PathReverseError → Result Unit PathReverseError
+after_header (Ok complete) after = after
+after_header (Err error) after = Err (HeaderFailed error)
 
 module _ (path : List ℕ) where
   pub answer_asked : reverse_answer path ≡ after_header (header_check path) (asked path)
   unfolding reverse_answer
   answer_asked =
-      asks_append Failed (within HeaderFailed (header_questions path)) (index_questions path) Reversed
-      ∙ asks_within HeaderFailed Failed (header_questions path) (asked path)
+      asks_append Err (within HeaderFailed (header_questions path)) (index_questions path) (Ok tt)
+      ∙ asks_within HeaderFailed Err (header_questions path) (asked path)
       ∙ sym (header_asked (λ check. after_header check (asked path)) path)
 
-  pub whole : header_check path ≡ Complete → Whole path
+  pub refused_header : {error : HeaderError} → header_check path ≡ Err error → reverse_answer path ≡ Err (HeaderFailed error)
+  refused_header e = answer_asked ∙ ap (λ check. after_header check (asked path)) e
+
+  pub complete_header : header_check path ≡ Ok tt → reverse_answer path ≡ asked path
+  complete_header e = answer_asked ∙ ap (λ check. after_header check (asked path)) e
+
+  pub whole : header_check path ≡ Ok tt → Whole path
   unfolding asks header_check
   whole e = go (meta_there path) (fields_there path) (hops_few path) refl refl refl
     where
@@ -65,43 +69,43 @@ module _ (path : List ℕ) where
       go true true false p q r = let z : ◌≡◌ {A = ℕ} 0 1 = cc in absurd (omega arith)
       go true true true p q r = record { meta = leb-true _ _ p; fits = leb-true _ _ q; few = leb-true _ _ r }
 
-  pub no_segments : seg0_len path ≡ 0 → Failed NoSegments ≡ asked path
+  pub no_segments : seg0_len path ≡ 0 → Err NoSegments ≡ asked path
   unfolding asks
   no_segments e = simp (eq-eqb _ _ e)
 
-  pub hop_out_of_bounds : (seg0_len path ≡ 0 → ⊥) → hops path ≤ curr_hf path → Failed HopOutOfBounds ≡ asked path
+  pub hop_out_of_bounds : (seg0_len path ≡ 0 → ⊥) → hops path ≤ curr_hf path → Err HopOutOfBounds ≡ asked path
   unfolding asks
   hop_out_of_bounds n h = simp (ne_eqb _ _ n, le-ltb _ _ h)
 
   pub info_out_of_bounds : (seg0_len path ≡ 0 → ⊥) → curr_hf path < hops path → segment_count path ≤ curr_inf path
-      → Failed InfoOutOfBounds ≡ asked path
+      → Err InfoOutOfBounds ≡ asked path
   unfolding asks
   info_out_of_bounds n h i = simp (ne_eqb _ _ n, lt-ltb _ _ h, le-ltb _ _ i)
 
-  pub all_answered : (seg0_len path ≡ 0 → ⊥) → curr_hf path < hops path → curr_inf path < segment_count path → Reversed ≡ asked path
+  pub all_answered : (seg0_len path ≡ 0 → ⊥) → curr_hf path < hops path → curr_inf path < segment_count path → Ok tt ≡ asked path
   unfolding asks
   all_answered n h i = simp (ne_eqb _ _ n, lt-ltb _ _ h, lt-ltb _ _ i)
 
-  pub reversible : reverse_answer path ≡ Reversed → Reversible path
+  pub reversible : reverse_answer path ≡ Ok tt → Reversible path
   unfolding asks
   reversible e =
       go (header_check path) (eqb (seg0_len path) 0) (ltb (curr_hf path) (hops path)) (ltb (curr_inf path) (segment_count path))
       refl refl refl refl (sym answer_asked ∙ e)
     where
-      go : (check : HeaderCheck) (none hop info : Bool) → header_check path ≡ check → eqb (seg0_len path) 0 ≡ none
+      go : (check : Result Unit HeaderError) (none hop info : Bool) → header_check path ≡ check → eqb (seg0_len path) 0 ≡ none
           → ltb (curr_hf path) (hops path) ≡ hop → ltb (curr_inf path) (segment_count path) ≡ info
-          → after_header check (cond (not none) (cond hop (cond info Reversed (Failed InfoOutOfBounds)) (Failed HopOutOfBounds)) (Failed NoSegments))
-          ≡ Reversed
+          → after_header check (cond (not none) (cond hop (cond info (Ok tt) (Err InfoOutOfBounds)) (Err HopOutOfBounds)) (Err NoSegments))
+          ≡ Ok tt
           → Reversible path
-      go (header.Failed error) none hop info p q r t f = let z : ◌≡◌ {A = ℕ} 0 1 = cc in absurd (omega arith)
-      go Complete true hop info p q r t f = let z : ◌≡◌ {A = ℕ} 0 1 = cc in absurd (omega arith)
-      go Complete false false info p q r t f = let z : ◌≡◌ {A = ℕ} 0 1 = cc in absurd (omega arith)
-      go Complete false true false p q r t f = let z : ◌≡◌ {A = ℕ} 0 1 = cc in absurd (omega arith)
-      go Complete false true true p q r t f =
+      go (Err error) none hop info p q r t f = let z : ◌≡◌ {A = ℕ} 0 1 = cc in absurd (omega arith)
+      go (Ok complete) true hop info p q r t f = let z : ◌≡◌ {A = ℕ} 0 1 = cc in absurd (omega arith)
+      go (Ok complete) false false info p q r t f = let z : ◌≡◌ {A = ℕ} 0 1 = cc in absurd (omega arith)
+      go (Ok complete) false true false p q r t f = let z : ◌≡◌ {A = ℕ} 0 1 = cc in absurd (omega arith)
+      go (Ok complete) false true true p q r t f =
           record { complete = p; segments = eqb-false _ _ q; hop = ltb-true _ _ r; info = ltb-true _ _ t }
 
   -- all fields of such a path are there, also once the lengths are swapped
-  pub parts_all_there : reverse_answer path ≡ Reversed
+  pub parts_all_there : reverse_answer path ≡ Ok tt
       → reverse_parts_there (infos path) (hops path) (swap_lengths path) ≡ reverse_parts (infos path) (hops path) (swap_lengths path)
   unfolding header_size
   parts_all_there e = parts_there _ _ _ (rw (length_swap_lengths path) (whole (reversible e).complete).fits)

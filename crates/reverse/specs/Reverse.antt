@@ -1,13 +1,11 @@
 -- 01, 'view.rs', `try_reverse`: its answer, the questions in order, and the bytes that it leaves.
 -- Assumes nothing.
-use Rattle.std.specs.Prelude.{ℕ, ◌-◌, not, List, [], ◌∷◌, ◌++◌, eqb, ltb}
+use Rattle.std.specs.Prelude.{ℕ, ◌-◌, not, List, [], ◌∷◌, ◌++◌, eqb, ltb, Result, Ok, Err}
 use Rattle.questions.specs.Questions.{Questions, asks, within}
 use Rattle.standard_path.specs.Meta.{curr_inf, curr_hf, seg0_len, set_curr_inf, set_curr_hf}
 use Rattle.standard_path.specs.Header.{infos, hops, header_number, header_questions}
 use Rattle.segments.specs.Segments.{segment_count}
 use Rattle.reverse_parts.specs.Parts.{swap_lengths, reverse_parts}
-use Rattle.reverse.specs.declared.Reversal.{Reversal}
-use Rattle.reverse.specs.declared.Reversal.TheVariants.{Reversed, Failed}
 use Rattle.reverse.specs.declared.PathReverseError.{PathReverseError}
 use Rattle.reverse.specs.declared.PathReverseError.TheVariants.{HeaderFailed, NoSegments, HopOutOfBounds, InfoOutOfBounds}
 
@@ -38,16 +36,16 @@ index_questions path =
 abbrev pub reverse_questions : List ℕ → Questions PathReverseError
 reverse_questions path = within HeaderFailed (header_questions path) ++ index_questions path
 
-unfoldable pub reverse_answer : List ℕ → Reversal
-reverse_answer path = asks Failed (reverse_questions path) Reversed
+unfoldable pub reverse_answer : List ℕ → Result Unit PathReverseError
+reverse_answer path = asks Err (reverse_questions path) (Ok tt)
 
 -- 01, 'Bytes left': 21 and 22 leave the lengths swapped
-unfoldable pub bytes_left : Reversal → List ℕ → List ℕ
-bytes_left Reversed path = reversed path
-bytes_left (Failed (HeaderFailed error)) path = path
-bytes_left (Failed NoSegments) path = path
-bytes_left (Failed HopOutOfBounds) path = swap_lengths path
-bytes_left (Failed InfoOutOfBounds) path = swap_lengths path
+unfoldable pub bytes_left : Result Unit PathReverseError → List ℕ → List ℕ
+bytes_left (Ok done) path = reversed path
+bytes_left (Err (HeaderFailed error)) path = path
+bytes_left (Err NoSegments) path = path
+bytes_left (Err HopOutOfBounds) path = swap_lengths path
+bytes_left (Err InfoOutOfBounds) path = swap_lengths path
 
 unfoldable pub reverse_bytes : List ℕ → List ℕ
 reverse_bytes path = bytes_left (reverse_answer path) path

@@ -6,14 +6,13 @@
 // Licensed under the Apache License, Version 2.0: see NOTICE.
 #![tactic(auto)]
 
-ghost use Rattle.std.specs.Prelude.{◌≡◌};
-ghost use Rattle.questions.specs.Questions.{asks};
-ghost use Rattle.reverse.specs.Reverse.{reverse_number, index_questions, reverse_answer, reversed, bytes_left, reverse_bytes};
-ghost use Rattle.reverse.specs.declared.Reversal.TheVariants.{Reversed, Failed};
+ghost use Rattle.std.specs.Prelude.{◌≡◌, Ok, Err};
+ghost use Rattle.reverse.specs.Reverse.{reverse_number, reverse_answer, reversed, bytes_left, reverse_bytes};
+ghost use Rattle.reverse.specs.declared.PathReverseError.TheVariants.{HeaderFailed};
 
 use reverse_parts::{reverse_parts, swap_lengths};
 use standard_path::view;
-use standard_path::view::{HeaderCheck, HeaderError};
+use standard_path::view::HeaderError;
 
 // Why a path is not turned around: 01's answers 2, 3, 4, 20, 21 and 22.
 #[derive(Clone, Copy)]
@@ -24,10 +23,12 @@ pub enum PathReverseError {
     InfoOutOfBounds,
 }
 
-#[derive(Clone, Copy)]
-pub enum Reversal {
-    Reversed,
-    Failed(PathReverseError),
+impl From<HeaderError> for PathReverseError {
+    ghost from_gives = { λ why r. r ≡ HeaderFailed why };
+
+    fn from(why: HeaderError) -> PathReverseError {
+        PathReverseError::HeaderFailed(why)
+    }
 }
 
 // 01's number of an error.
@@ -42,34 +43,25 @@ pub fn reverse_number(error: PathReverseError) -> u8
     }
 }
 
-// 01's questions 20, 21 and 22.
-fn asked(path: &[u8]) -> Reversal
-    ensures { result ≡ asks Failed (index_questions path.now) Reversed }
-{
-    if view::seg0_len(path) == 0 {
-        return Reversal::Failed(PathReverseError::NoSegments);
-    }
-    if view::hop_field_count(path) <= view::curr_hop_field_idx(path) {
-        return Reversal::Failed(PathReverseError::HopOutOfBounds);
-    }
-    if segments::segment_count(path) <= view::curr_info_field_idx(path) {
-        return Reversal::Failed(PathReverseError::InfoOutOfBounds);
-    }
-    Reversal::Reversed
-}
-
-fn answer(path: &[u8]) -> Reversal
+// 01's questions 2, 3 and 4, then 20, 21 and 22.
+fn answer(path: &[u8]) -> Result<(), PathReverseError>
     ensures { result ≡ reverse_answer path.now }
 {
-    let header = view::check_header(path);
-    match header {
-        HeaderCheck::Failed(error) => Reversal::Failed(PathReverseError::HeaderFailed(error)),
-        HeaderCheck::Complete => asked(path),
+    view::check_header(path)?;
+    if view::seg0_len(path) == 0 {
+        return Err(PathReverseError::NoSegments);
     }
+    if view::hop_field_count(path) <= view::curr_hop_field_idx(path) {
+        return Err(PathReverseError::HopOutOfBounds);
+    }
+    if segments::segment_count(path) <= view::curr_info_field_idx(path) {
+        return Err(PathReverseError::InfoOutOfBounds);
+    }
+    Ok(())
 }
 
 fn turn_around(path: &mut [u8])
-    requires { reverse_answer path.old ≡ Reversed }
+    requires { reverse_answer path.old ≡ Ok tt }
     ensures { path.new ≡ reversed path.old }
 {
     let infos = view::info_field_count(path);
@@ -84,25 +76,23 @@ fn turn_around(path: &mut [u8])
 
 // What an error leaves. An index out of bounds leaves the lengths swapped: the Rust asks for it after that.
 fn leave(path: &mut [u8], error: PathReverseError)
-    ensures { path.new ≡ bytes_left (Failed error) path.old }
+    ensures { path.new ≡ bytes_left (Err error) path.old }
 {
     match error {
-        PathReverseError::HeaderFailed(_) => {}
-        PathReverseError::NoSegments => {}
-        PathReverseError::HopOutOfBounds => swap_lengths(path),
-        PathReverseError::InfoOutOfBounds => swap_lengths(path),
+        PathReverseError::HeaderFailed(_) | PathReverseError::NoSegments => {}
+        PathReverseError::HopOutOfBounds | PathReverseError::InfoOutOfBounds => swap_lengths(path),
     }
 }
 
 // Turns the path around, with the position in it kept.
-pub fn try_reverse(path: &mut [u8]) -> Reversal
+pub fn try_reverse(path: &mut [u8]) -> Result<(), PathReverseError>
     ensures answer { result ≡ reverse_answer path.old }
     ensures bytes { path.new ≡ reverse_bytes path.old }
 {
     let answer = answer(path);
     match answer {
-        Reversal::Reversed => turn_around(path),
-        Reversal::Failed(error) => leave(path, error),
+        Ok(()) => turn_around(path),
+        Err(error) => leave(path, error),
     }
     answer
 }
