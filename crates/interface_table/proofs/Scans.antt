@@ -3,36 +3,32 @@
 use mathlib.Core.Path.{◌≡◌, refl, ◌∙◌}
 use mathlib.Core.Bool.{true, cond, ◌&&◌}
 use mathlib.Core.List.{List, [], ◌∷◌}
-use Prim.Native.Nat.{ℕ, zero, suc, ◌+◌, ◌≤◌, ◌<◌, min}
+use mathlib.Core.Logic.{◌⊎◌, inl, inr}
+use Prim.Native.Nat.{ℕ, ◌+◌, ◌≤◌, ◌<◌}
 use native.Mathlib.Numerals.{add-one}
 use native.Mathlib.Omega.{arith}
 use borrow.Author.Tests.{eq-eqb, ne_eqb}
 use lib.Dec.{eqb, ltb}
-use lib.ListN.{length, get_or, drop, length-drop, drop_of_length-le}
-use lib.Seq.{drop-cons, drop-nil}
+use lib.ListN.{length, get_or, take, drop, drop_of_length-le}
+use lib.Seq.{drop-cons}
+use Rattle.std.specs.Prelude.{Some, None}
 use Rattle.interface_table.specs.Table.{ids_ascending, states_sound, state_of}
-use Rattle.interface_table.specs.declared.Listed.TheVariants.{State, Nothing}
 
--- ---- each number is above the one before it
+-- ---- each number is above the one before it, in what is left
 
-module _ (ids : List ℕ) (i : ℕ) where
-  pub ascending_more : i + 1 < length ids
-      → ids_ascending (drop i ids) ≡ (ltb (get_or ids i 0) (get_or ids (i + 1) 0) && ids_ascending (drop (i + 1) ids))
-  unfolding ids_ascending
-  ascending_more h =
-      let here : i < length ids = omega arith in
-      let next : suc i < length ids = omega arith in
-      rw (add-one, drop-cons ids i 0, drop-cons ids (suc i) 0)
+pub pair_more : (ids : List ℕ) {size : ℕ} {pair left : List ℕ} → size ≡ 2 → size ≤ length ids → pair ≡ take size ids → left ≡ drop 1 ids
+    → ids_ascending ids ≡ (ltb (get_or pair 0 0) (get_or pair 1 0) && ids_ascending left)
+unfolding ids_ascending
+pair_more [] e h p q = absurd (omega arith)
+pair_more (id ∷ []) e h p q = absurd (omega arith)
+pair_more (id ∷ next ∷ ids) e h p q = rw (p, q, e)
 
-  -- the last number has none after it
-  pub ascending_end : length ids ≤ i + 1 → ids_ascending (drop i ids) ≡ true
-  unfolding ids_ascending
-  ascending_end h = short (drop i ids) (rw length-drop (omega arith))
-    where
-      short : (l : List ℕ) → length l ≤ 1 → ids_ascending l ≡ true
-      short [] g = refl
-      short (id ∷ []) g = refl
-      short (id ∷ next ∷ ids) g = absurd (omega arith)
+-- the last number has none after it
+pub pairs_end : (ids : List ℕ) → length ids < 2 → ids_ascending ids ≡ true
+unfolding ids_ascending
+pairs_end [] h = refl
+pairs_end (id ∷ []) h = refl
+pairs_end (id ∷ next ∷ ids) h = absurd (omega arith)
 
 -- ---- each state is sound
 
@@ -45,30 +41,25 @@ module _ (states : List ℕ) (i : ℕ) where
   unfolding states_sound
   states_end h = rw (drop_of_length-le states h)
 
--- ---- the first entry with the number wanted
+-- ---- the first entry with the number wanted, in what is left
 
-module _ (ids states : List ℕ) (wanted i : ℕ) (in_ids : i < length ids) (in_states : i < length states) where
-  entry_more : state_of (drop i ids) (drop i states) wanted
-      ≡ cond (eqb (get_or ids i 0) wanted) (State (get_or states i 0)) (state_of (drop (i + 1) ids) (drop (i + 1) states) wanted)
+module _ {ids states : List ℕ} (wanted : ℕ) where
+  entry_more : {id state : ℕ} {ids_left states_left : List ℕ} → (ids ≡ id ∷ ids_left) × (states ≡ state ∷ states_left)
+      → state_of ids states wanted ≡ cond (eqb id wanted) (Some state) (state_of ids_left states_left wanted)
   unfolding state_of
-  entry_more = rw (add-one, drop-cons ids i 0, drop-cons states i 0)
+  entry_more e = rw (e.0, e.1)
 
-  pub entry_here : get_or ids i 0 ≡ wanted → state_of (drop i ids) (drop i states) wanted ≡ State (get_or states i 0)
-  entry_here e = entry_more ∙ rw (eq-eqb _ _ e)
+  pub entry_here : {id state : ℕ} {ids_left states_left : List ℕ} → (ids ≡ id ∷ ids_left) × (states ≡ state ∷ states_left)
+      → id ≡ wanted → state_of ids states wanted ≡ Some state
+  entry_here e found = entry_more e ∙ rw (eq-eqb _ _ found)
 
-  pub entry_later : (get_or ids i 0 ≡ wanted → ⊥)
-      → state_of (drop i ids) (drop i states) wanted ≡ state_of (drop (i + 1) ids) (drop (i + 1) states) wanted
-  entry_later e = entry_more ∙ rw (ne_eqb _ _ e)
+  pub entry_later : {id state : ℕ} {ids_left states_left : List ℕ} → (ids ≡ id ∷ ids_left) × (states ≡ state ∷ states_left)
+      → (id ≡ wanted → ⊥) → state_of ids states wanted ≡ state_of ids_left states_left wanted
+  entry_later e passed = entry_more e ∙ rw (ne_eqb _ _ passed)
 
-no_states : (ids : List ℕ) (wanted : ℕ) → state_of ids [] wanted ≡ Nothing
+pub entry_nowhere : (ids states : List ℕ) (wanted : ℕ) → (ids ≡ []) ⊎ (states ≡ []) → state_of ids states wanted ≡ None
 unfolding state_of
-no_states [] wanted = refl
-no_states (id ∷ ids) wanted = refl
-
-pub entry_nowhere : (ids states : List ℕ) (wanted i : ℕ)
-    → min (length ids) (length states) ≤ i → state_of (drop i ids) (drop i states) wanted ≡ Nothing
-unfolding state_of
-entry_nowhere [] states wanted i h = rw drop-nil
-entry_nowhere (id ∷ ids) [] wanted i h = rw drop-nil (no_states (drop i (id ∷ ids)) wanted)
-entry_nowhere (id ∷ ids) (state ∷ states) wanted zero h = absurd (omega arith)
-entry_nowhere (id ∷ ids) (state ∷ states) wanted (suc i) h = entry_nowhere ids states wanted i (omega arith)
+entry_nowhere [] states wanted e = refl
+entry_nowhere (id ∷ ids) [] wanted e = refl
+entry_nowhere (id ∷ ids) (state ∷ states) wanted (inl e) = absurd cc
+entry_nowhere (id ∷ ids) (state ∷ states) wanted (inr e) = absurd cc

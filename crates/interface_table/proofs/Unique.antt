@@ -12,9 +12,8 @@ use borrow.Author.Tests.{ltb-true, leb-true, eqb-true, eq-eqb, ne_eqb}
 use lib.Dec.{eqb, leb, ltb}
 use lib.ListN.{length, get_or}
 use Rattle.octets.proofs.Bools.{each_of}
+use Rattle.std.specs.Prelude.{Option, Some, None}
 use Rattle.interface_table.specs.Table.{ids_ascending, states_sound, table_sound, state_of}
-use Rattle.interface_table.specs.declared.Listed.{Listed}
-use Rattle.interface_table.specs.declared.Listed.TheVariants.{State, Nothing}
 
 -- ---- entries of any table
 
@@ -29,41 +28,41 @@ pub record Entry (ids states : List ℕ) (id state : ℕ) : Type 0 where
 later : {ids states : List ℕ} {first beside id state : ℕ} → Entry ids states id state → Entry (first ∷ ids) (beside ∷ states) id state
 later e = record { place = suc e.place; in_ids = omega arith; in_states = omega arith; has_id = e.has_id; has_state = e.has_state }
 
-pub found_entry : (ids states : List ℕ) (id state : ℕ) → state_of ids states id ≡ State state → Entry ids states id state
+pub found_entry : (ids states : List ℕ) (id state : ℕ) → state_of ids states id ≡ Some state → Entry ids states id state
 unfolding state_of
-found_entry [] states id state q = let z : ◌≡◌ {A = ℕ} 0 1 = cc in absurd (omega arith)
-found_entry (first ∷ ids) [] id state q = let z : ◌≡◌ {A = ℕ} 0 1 = cc in absurd (omega arith)
+found_entry [] states id state q = absurd cc
+found_entry (first ∷ ids) [] id state q = absurd cc
 found_entry (first ∷ ids) (beside ∷ states) id state q = by (eqb first id) refl q (found_entry ids states id state)
   where
-    by : (t : Bool) → eqb first id ≡ t → cond t (State beside) (state_of ids states id) ≡ State state
-        → (state_of ids states id ≡ State state → Entry ids states id state) → Entry (first ∷ ids) (beside ∷ states) id state
+    by : (t : Bool) → eqb first id ≡ t → cond t (Some beside) (state_of ids states id) ≡ Some state
+        → (state_of ids states id ≡ Some state → Entry ids states id state) → Entry (first ∷ ids) (beside ∷ states) id state
     by true e q found = record { place = 0; in_ids = omega arith; in_states = omega arith; has_id = eqb-true first id e; has_state = cc }
     by false e q found = later (found q)
 
-none_at : (ids states : List ℕ) (id k : ℕ) → state_of ids states id ≡ Nothing → k < length ids → k < length states → get_or ids k 0 ≡ id → ⊥
+none_at : (ids states : List ℕ) (id k : ℕ) → state_of ids states id ≡ None → k < length ids → k < length states → get_or ids k 0 ≡ id → ⊥
 unfolding state_of
 none_at [] states id k q g h e = absurd (omega arith)
 none_at (first ∷ ids) [] id k q g h e = absurd (omega arith)
 none_at (first ∷ ids) (beside ∷ states) id zero q g h e =
-    let found : state_of (first ∷ ids) (beside ∷ states) id ≡ State beside = rw (eq-eqb first id e) in
+    let found : state_of (first ∷ ids) (beside ∷ states) id ≡ Some beside = rw (eq-eqb first id e) in
     let z : ◌≡◌ {A = ℕ} 0 1 = cc in
     omega arith
 none_at (first ∷ ids) (beside ∷ states) id (suc k) q g h e =
     none_at ids states id k (passed (eqb first id) q) (omega arith) (omega arith) e
   where
-    passed : (t : Bool) → cond t (State beside) (state_of ids states id) ≡ Nothing → state_of ids states id ≡ Nothing
+    passed : (t : Bool) → cond t (Some beside) (state_of ids states id) ≡ None → state_of ids states id ≡ None
     passed true q = cc
     passed false q = q
 
-pub none_found : (ids states : List ℕ) (id state : ℕ) → state_of ids states id ≡ Nothing → Entry ids states id state → ⊥
+pub none_found : (ids states : List ℕ) (id state : ℕ) → state_of ids states id ≡ None → Entry ids states id state → ⊥
 none_found ids states id state q e = none_at ids states id e.place q e.in_ids e.in_states e.has_id
 
-pub unlisted_none : (ids states : List ℕ) (id : ℕ) → ((state : ℕ) → Entry ids states id state → ⊥) → state_of ids states id ≡ Nothing
+pub unlisted_none : (ids states : List ℕ) (id : ℕ) → ((state : ℕ) → Entry ids states id state → ⊥) → state_of ids states id ≡ None
 unlisted_none ids states id h = by (state_of ids states id) refl
   where
-    by : (listed : Listed) → state_of ids states id ≡ listed → state_of ids states id ≡ Nothing
-    by (State state) e = absurd (h state (found_entry ids states id state e))
-    by Nothing e = e
+    by : (listed : Option ℕ) → state_of ids states id ≡ listed → state_of ids states id ≡ None
+    by (Some state) e = absurd (h state (found_entry ids states id state e))
+    by None e = e
 
 -- ---- ascending numbers, and states below 8
 
@@ -88,7 +87,7 @@ ascends (id ∷ ids) q zero (suc k) g h = above_first id ids q k (omega arith)
 ascends (id ∷ ids) q (suc j) (suc k) g h = ascends ids (rest_ascends id ids q) j k (omega arith) (omega arith)
 
 found_at : (ids states : List ℕ) → ids_ascending ids ≡ true → (k : ℕ) → k < length ids → k < length states
-    → state_of ids states (get_or ids k 0) ≡ State (get_or states k 0)
+    → state_of ids states (get_or ids k 0) ≡ Some (get_or states k 0)
 unfolding state_of
 found_at [] states q k g h = absurd (omega arith)
 found_at (id ∷ ids) [] q k g h = absurd (omega arith)
@@ -133,10 +132,10 @@ module _ (ids states : List ℕ) (sound : table_sound ids states ≡ true) where
       let above : (k < j → ⊥) = λ b. omega (arith, ascending k j b g) in
       omega arith
 
-  pub entry_found : (id state : ℕ) → Entry ids states id state → state_of ids states id ≡ State state
+  pub entry_found : (id state : ℕ) → Entry ids states id state → state_of ids states id ≡ Some state
   entry_found id state e = rw (← e.has_id, ← e.has_state) (found_at ids states parts.2 e.place e.in_ids e.in_states)
 
-  pub found_below_8 : (id state : ℕ) → state_of ids states id ≡ State state → state < 8
+  pub found_below_8 : (id state : ℕ) → state_of ids states id ≡ Some state → state < 8
   found_below_8 id state q =
       let e = found_entry ids states id state q in
       rw (← e.has_state) (sound_states e.place e.in_states)

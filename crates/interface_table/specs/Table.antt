@@ -1,8 +1,8 @@
 -- An AS's interface table, by 01, 'What takes another shape', first point: interface numbers beside state bytes.
 -- Assumes nothing.
-use Rattle.std.specs.Prelude.{ℕ, ◌%◌, Bool, true, false, cond, not, ◌&&◌, ◌||◌, List, [], ◌∷◌, eqb, leb, ltb, length}
-use Rattle.interface_table.specs.declared.Listed.{Listed}
-use Rattle.interface_table.specs.declared.Listed.TheVariants.{State, Nothing}
+use Rattle.std.specs.Prelude.{ℕ, ◌%◌, Bool, true, false, cond, not, ◌&&◌, ◌||◌, List, [], ◌∷◌, eqb, leb, ltb, length, Option, Some, None}
+use Rattle.interface_table.specs.declared.AsRoutingLinkType.{AsRoutingLinkType}
+use Rattle.interface_table.specs.declared.AsRoutingLinkType.TheVariants.{LinkToCore, LinkToParent, LinkToChild, LinkToPeer}
 
 -- ---- 01, 'Before everything', question 1: is the table sound?
 
@@ -24,10 +24,10 @@ table_sound ids states = eqb (length ids) (length states) && leb (length ids) 25
 -- ---- 01, 'The shape of each place': 'the unique entry or none'
 
 -- The state of the first entry with the number: in a sound table the only one (proofs/Unique.antt). It ends where either list does.
-unfoldable pub state_of : List ℕ → List ℕ → ℕ → Listed
-state_of [] states wanted = Nothing
-state_of (id ∷ ids) [] wanted = Nothing
-state_of (id ∷ ids) (state ∷ states) wanted = cond (eqb id wanted) (State state) (state_of ids states wanted)
+unfoldable pub state_of : List ℕ → List ℕ → ℕ → Option ℕ
+state_of [] states wanted = None
+state_of (id ∷ ids) [] wanted = None
+state_of (id ∷ ids) (state ∷ states) wanted = cond (eqb id wanted) (Some state) (state_of ids states wanted)
 
 -- ---- 01, 'What takes another shape': 'the link (0 core, 1 parent, 2 child, 3 peer) plus 4 if up'
 
@@ -42,6 +42,12 @@ child = 2
 
 abbrev pub peer : ℕ
 peer = 3
+
+abbrev pub link_number : AsRoutingLinkType → ℕ
+link_number LinkToCore = core
+link_number LinkToParent = parent
+link_number LinkToChild = child
+link_number LinkToPeer = peer
 
 unfoldable pub link_type : ℕ → ℕ
 link_type state = state % 4
