@@ -4,6 +4,8 @@
 ghost use Rattle.std.specs.Prelude.{◌≡◌, [], ◌∷◌};
 ghost use Rattle.hop_mac.specs.Mac.{hop_mac};
 
+use cmac::KeySchedule;
+
 // One hop MAC, from its key.
 #[unsafe(no_mangle)]
 pub extern "C" fn bench_hop_mac(
@@ -47,12 +49,9 @@ pub extern "C" fn bench_three_hop_macs(
         ∷ [] }
 {
     let table = aes::round_table();
-    let round_keys = aes_keys::expand_key(*key);
-    let k1 = cmac::subkey_with(&table, round_keys);
+    let schedule = KeySchedule::new(&table, *key);
     let a = hop_mac::calculate_hop_mac_with(
-        &table,
-        round_keys,
-        k1,
+        schedule,
         first,
         timestamp,
         exp_time,
@@ -60,9 +59,7 @@ pub extern "C" fn bench_three_hop_macs(
         cons_egress,
     );
     let b = hop_mac::calculate_hop_mac_with(
-        &table,
-        round_keys,
-        k1,
+        schedule,
         second,
         timestamp,
         exp_time,
@@ -70,9 +67,7 @@ pub extern "C" fn bench_three_hop_macs(
         cons_egress,
     );
     let c = hop_mac::calculate_hop_mac_with(
-        &table,
-        round_keys,
-        k1,
+        schedule,
         third,
         timestamp,
         exp_time,

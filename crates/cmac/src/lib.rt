@@ -4,6 +4,7 @@
 ghost use Rattle.std.specs.Prelude.{◌≡◌, ◌+◌, ◌-◌, ◌*◌, ◌/◌, ◌%◌, ◌≤◌, length};
 ghost use Rattle.aes_words.specs.Block.{xor_block};
 ghost use Rattle.aes.specs.ByTable.{cipher_by};
+ghost use Rattle.aes_keys.specs.KeyExpansion.{round_keys};
 ghost use Rattle.cmac.specs.Cmac.{shift_left, doubled, subkey1, block_count, block_at, padded_byte, padding_at};
 ghost use Rattle.cmac.specs.Cmac.{last_block, chained, mac_with, aes_cmac};
 
@@ -53,13 +54,6 @@ pub fn double(block: [u8; 16]) -> [u8; 16]
     } else {
         xor_block(shifted, [0, 0, 0, 0, 0, 0, 0, 0, 0, 0, 0, 0, 0, 0, 0, 0x87])
     }
-}
-
-// K1, from the key's schedule.
-pub fn subkey_with(table: &[u8; 1024], round_keys: [[u8; 16]; 11]) -> [u8; 16]
-    ensures { result ≡ subkey1 (cipher_by table.now round_keys) }
-{
-    double(encrypt_with(table, round_keys, [0u8; 16]))
 }
 
 fn block_at(message: &[u8], at: usize) -> [u8; 16]
@@ -120,61 +114,72 @@ fn last_block(k1: [u8; 16], message: &[u8]) -> [u8; 16]
     }
 }
 
-// X after the message's first `count` blocks.
-fn chain(table: &[u8; 1024], round_keys: [[u8; 16]; 11], message: &[u8], count: usize) -> [u8; 16]
-    requires { 16 * count ≤ length message.now }
-    ensures { result ≡ chained (cipher_by table.now round_keys) message.now count }
-{
-    let mut state = [0u8; 16];
-    let mut i = 0;
-    while i < count {
-        state = encrypt_with(
+// What the MACs under one key share: a lent round table, the round keys and K1.
+#[derive(Clone, Copy)]
+pub struct KeySchedule<'a> {
+    pub table: &'a [u8; 1024],
+    pub round_keys: [[u8; 16]; 11],
+    pub k1: [u8; 16],
+}
+
+impl<'a> KeySchedule<'a> {
+    // With `round_table()` the cipher is AES.
+    pub fn new(table: &'a [u8; 1024], key: [u8; 16]) -> KeySchedule<'a>
+        ensures table { result.table.now ≡ table.now }
+        ensures round_keys { result.round_keys ≡ round_keys key }
+        ensures k1 { result.k1 ≡ subkey1 (cipher_by result.table.now result.round_keys) }
+    {
+        let round_keys = expand_key(key);
+        let k1 = double(encrypt_with(table, round_keys, [0u8; 16]));
+        KeySchedule {
             table,
             round_keys,
-            xor_block(state, block_at(message, 16 * i)),
-        );
-        i += 1;
+            k1,
+        }
     }
-    state
-}
 
-// The MAC from a schedule and K1 that were made before.
-pub fn aes_cmac_with(
-    table: &[u8; 1024],
-    round_keys: [[u8; 16]; 11],
-    k1: [u8; 16],
-    message: &[u8],
-) -> [u8; 16]
-    ensures { result ≡ mac_with (cipher_by table.now round_keys) k1 message.now }
-{
-    let state = chain(
-        table,
-        round_keys,
-        message,
-        blocks_before_last(message.len()),
-    );
-    encrypt_with(table, round_keys, xor_block(state, last_block(k1, message)))
-}
+    fn encrypt(self, block: [u8; 16]) -> [u8; 16]
+        ensures { result ≡ cipher_by self.entry.table.now self.entry.round_keys block }
+    {
+        encrypt_with(self.table, self.round_keys, block)
+    }
 
-// The same for a message of one block. By words: a block that was put together byte by byte is slow to read back.
-pub fn aes_cmac_block_with(
-    table: &[u8; 1024],
-    round_keys: [[u8; 16]; 11],
-    k1: [u8; 16],
-    block: [u8; 16],
-) -> [u8; 16]
-    ensures { result ≡ mac_with (cipher_by table.now round_keys) k1 block }
-{
-    encrypt_words(table, round_keys, xor_words(words(block), words(k1)))
+    // X after the message's first `count` blocks.
+    fn chain(self, message: &[u8], count: usize) -> [u8; 16]
+        requires { 16 * count ≤ length message.now }
+        ensures { result ≡ chained (cipher_by self.entry.table.now self.entry.round_keys) message.now count }
+    {
+        let mut state = [0u8; 16];
+        for i in 0..count {
+            state = self.encrypt(xor_block(state, block_at(message, 16 * i)));
+        }
+        state
+    }
+
+    pub fn aes_cmac(self, message: &[u8]) -> [u8; 16]
+        ensures { result ≡ mac_with (cipher_by self.entry.table.now self.entry.round_keys) self.entry.k1 message.now }
+    {
+        let state = self.chain(message, blocks_before_last(message.len()));
+        self.encrypt(xor_block(state, last_block(self.k1, message)))
+    }
+
+    // The same for a message of one block. By words: a block that was put together byte by byte is slow to read back.
+    pub fn aes_cmac_block(self, block: [u8; 16]) -> [u8; 16]
+        ensures { result ≡ mac_with (cipher_by self.entry.table.now self.entry.round_keys) self.entry.k1 block }
+    {
+        encrypt_words(
+            self.table,
+            self.round_keys,
+            xor_words(words(block), words(self.k1)),
+        )
+    }
 }
 
 pub fn aes_cmac(key: [u8; 16], message: &[u8]) -> [u8; 16]
     ensures { result ≡ aes_cmac key message.now }
 {
     let table = round_table();
-    let round_keys = expand_key(key);
-    let k1 = subkey_with(&table, round_keys);
-    aes_cmac_with(&table, round_keys, k1, message)
+    KeySchedule::new(&table, key).aes_cmac(message)
 }
 
 // The same for a message of one block.
@@ -182,7 +187,5 @@ pub fn aes_cmac_block(key: [u8; 16], block: [u8; 16]) -> [u8; 16]
     ensures { result ≡ aes_cmac key block }
 {
     let table = round_table();
-    let round_keys = expand_key(key);
-    let k1 = subkey_with(&table, round_keys);
-    aes_cmac_block_with(&table, round_keys, k1, block)
+    KeySchedule::new(&table, key).aes_cmac_block(block)
 }

@@ -11,6 +11,8 @@ ghost use Rattle.aes.specs.ByTable.{cipher_by};
 ghost use Rattle.cmac.specs.Cmac.{mac_with};
 ghost use Rattle.hop_mac.specs.Mac.{mac_input, hop_mac, mac_beta_step};
 
+use cmac::KeySchedule;
+
 pub type ForwardingKey = [u8; 16];
 
 fn mac_input_data(
@@ -68,18 +70,16 @@ pub fn calculate_hop_mac(
     first_six(cmac::aes_cmac_block(key, data))
 }
 
-// The same from a schedule and K1 that were made before, for several MACs under one key.
+// The same from a schedule that was made before, for several MACs under one key.
 pub fn calculate_hop_mac_with(
-    table: &[u8; 1024],
-    round_keys: [[u8; 16]; 11],
-    k1: [u8; 16],
+    schedule: KeySchedule<'_>,
     mac_chain_beta: u16,
     timestamp: u32,
     exp_time: u8,
     cons_ingress: u16,
     cons_egress: u16,
 ) -> [u8; 6]
-    ensures { result ≡ take 6 (mac_with (cipher_by table.now round_keys) k1
+    ensures { result ≡ take 6 (mac_with (cipher_by schedule.entry.table.now schedule.entry.round_keys) schedule.entry.k1
         (mac_input mac_chain_beta timestamp exp_time cons_ingress cons_egress)) }
 {
     let data = mac_input_data(
@@ -89,7 +89,7 @@ pub fn calculate_hop_mac_with(
         cons_ingress,
         cons_egress,
     );
-    first_six(cmac::aes_cmac_block_with(table, round_keys, k1, data))
+    first_six(schedule.aes_cmac_block(data))
 }
 
 // The next accumulator of the MAC chaining.

@@ -1,6 +1,7 @@
 // Known answers of FIPS 197 and RFC 4493, and hop MACs that Python worked out, each on a line.
 #![tactic(auto)]
 
+use cmac::KeySchedule;
 use std::io;
 
 // The key of FIPS 197, appendices A.1 and B, and of RFC 4493, section 4.
@@ -61,9 +62,9 @@ fn put_mac(rt: &impl Print, label: &str, message: &[u8]) -> io::Result<()> {
 fn put_rfc_4493(rt: &impl Print) -> io::Result<()> {
     put_cipher(rt, "RFC 4493 AES-128(key,0)", KEY, [0u8; 16])?;
     let table = aes::round_table();
-    let k1 = cmac::subkey_with(&table, aes_keys::expand_key(KEY));
-    put(rt, "RFC 4493 K1", &k1)?;
-    put(rt, "RFC 4493 K2", &cmac::double(k1))?;
+    let schedule = KeySchedule::new(&table, KEY);
+    put(rt, "RFC 4493 K1", &schedule.k1)?;
+    put(rt, "RFC 4493 K2", &cmac::double(schedule.k1))?;
     let message = MESSAGE;
     put_mac(rt, "RFC 4493 MAC of 0 bytes", &message[..0])?;
     put_mac(rt, "RFC 4493 MAC of 16 bytes", &message[..16])?;
@@ -92,11 +93,8 @@ fn put_hop_mac(
     );
     put(rt, label, &from_key)?;
     let table = aes::round_table();
-    let round_keys = aes_keys::expand_key(key);
     let from_schedule = hop_mac::calculate_hop_mac_with(
-        &table,
-        round_keys,
-        cmac::subkey_with(&table, round_keys),
+        KeySchedule::new(&table, key),
         segment_id,
         timestamp,
         exp_time,

@@ -1,13 +1,13 @@
+use mathlib.Core.Path.{◌∙◌}
 use mathlib.Core.List.{[], ◌∷◌}
 use Rattle.hop_mac.proofs.HopMac.{hop_mac_from_schedule}
 use Rattle.bench_mac.proofs.bench_three_hop_macs.Goals as goal
 
 pub returns : goal.returns
 returns c =
-    let table = c.round_table-table.ensures in
-    let keys = c.expand_key-round_keys.ensures in
-    let k1 = c.subkey_with-k1.ensures in
-    λ i. (rw (hop_mac_from_schedule _ _ _ _ _ _ table keys k1) at c.calculate_hop_mac_with-a.ensures) i
-    ∷ (rw (hop_mac_from_schedule _ _ _ _ _ _ table keys k1) at c.calculate_hop_mac_with-b.ensures) i
-    ∷ (rw (hop_mac_from_schedule _ _ _ _ _ _ table keys k1) at c.calculate_hop_mac_with-c.ensures) i
+    let schedule = c.new-schedule.ensures in
+    let table = schedule.table ∙ c.round_table-table.ensures in
+    λ i. (rw (hop_mac_from_schedule _ _ _ _ _ _ table schedule.round_keys schedule.k1) at c.calculate_hop_mac_with-a.ensures) i
+    ∷ (rw (hop_mac_from_schedule _ _ _ _ _ _ table schedule.round_keys schedule.k1) at c.calculate_hop_mac_with-b.ensures) i
+    ∷ (rw (hop_mac_from_schedule _ _ _ _ _ _ table schedule.round_keys schedule.k1) at c.calculate_hop_mac_with-c.ensures) i
     ∷ []

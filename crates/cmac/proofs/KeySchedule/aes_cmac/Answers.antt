@@ -1,5 +1,5 @@
 use Rattle.cmac.specs.Cmac.{mac_with}
-use Rattle.cmac.proofs.aes_cmac_with.Goals as goal
+use Rattle.cmac.proofs.KeySchedule.aes_cmac.Goals as goal
 
 pub returns : goal.returns
 unfolding mac_with

@@ -5,7 +5,7 @@ use Rattle.aes_words.specs.Block.{xor_block, joined}
 use Rattle.aes.specs.ByTable.{cipher_by}
 use Rattle.aes_words.proofs.WordBytes.{xor_words}
 use Rattle.cmac.proofs.CmacLaws.{one_block}
-use Rattle.cmac.proofs.aes_cmac_block_with.Goals as goal
+use Rattle.cmac.proofs.KeySchedule.aes_cmac_block.Goals as goal
 
 pub returns : goal.returns
 returns c =

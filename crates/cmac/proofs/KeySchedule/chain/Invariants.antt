@@ -1,0 +1,7 @@
+use mathlib.Core.Path.{◌≡◌}
+use Rattle.aes.specs.ByTable.{cipher_by}
+use Rattle.cmac.specs.Cmac.{chained}
+use Rattle.cmac.proofs.KeySchedule.chain.Given as goal
+
+abbrev pub invariant-loop-i : goal.invariant-loop-i
+invariant-loop-i l = l.state ≡ chained (cipher_by l.fn.self.table.now l.fn.self.round_keys) l.message l.i
