@@ -51,7 +51,7 @@ pub struct Values {
 }
 
 impl Values {
-    fn of(values: &[u64]) -> Values
+    pub fn of(values: &[u64]) -> Values
         requires { length values.now ≤ 4 }
         ensures { result ≡ values_of values.now }
     {

@@ -7,80 +7,87 @@
 #![tactic(auto)]
 
 ghost use Rattle.std.specs.Prelude.{◌≡◌};
-ghost use Rattle.scmp.specs.Scmp.{interface_error, to_scmp_error};
+ghost use Rattle.scmp.specs.Scmp.{code_number, interface_code, to_scmp_error};
 
 use answers::StandardRoutingError;
 
 #[derive(Clone, Copy)]
-pub enum ScmpError {
-    // A malformed path or an unsound table: there is no one to answer.
-    NoMessage,
-    ParameterProblem { code: u8, pointer: u32 },
-    ExternalInterfaceDown { interface_id: u16 },
+pub enum ScmpParameterProblemCode {
+    ErroneousHeaderField,
+    InvalidPath,
+    UnknownHopFieldConsIngressInterface,
+    UnknownHopFieldConsEgressInterface,
+    InvalidHopFieldMac,
+    PathExpired,
+    InvalidSegmentChange,
 }
 
-// Codes of a parameter problem.
-const ERRONEOUS_HEADER_FIELD: u8 = 0;
+impl From<ScmpParameterProblemCode> for u8 {
+    ghost from_gives = { λ code number. number ≡ code_number code };
 
-const INVALID_PATH: u8 = 48;
-
-const UNKNOWN_HOP_FIELD_CONS_INGRESS_INTERFACE: u8 = 49;
-
-const UNKNOWN_HOP_FIELD_CONS_EGRESS_INTERFACE: u8 = 50;
-
-const INVALID_HOP_FIELD_MAC: u8 = 51;
-
-const PATH_EXPIRED: u8 = 52;
-
-const INVALID_SEGMENT_CHANGE: u8 = 53;
-
-// The hop field names the interface as its ConsIngress or as its ConsEgress.
-fn interface_error(is_cons_ingress: bool) -> ScmpError
-    ensures { result ≡ interface_error is_cons_ingress }
-{
-    let code = if is_cons_ingress {
-        UNKNOWN_HOP_FIELD_CONS_INGRESS_INTERFACE
-    } else {
-        UNKNOWN_HOP_FIELD_CONS_EGRESS_INTERFACE
-    };
-    ScmpError::ParameterProblem { code, pointer: 0 }
-}
-
-pub fn to_scmp_error(why: StandardRoutingError) -> ScmpError
-    ensures { result ≡ to_scmp_error why }
-{
-    match why {
-        StandardRoutingError::UnsoundTable => ScmpError::NoMessage,
-        StandardRoutingError::HeaderFailed(_) => ScmpError::NoMessage,
-        StandardRoutingError::AdvanceFailed(_) => ScmpError::NoMessage,
-        StandardRoutingError::InvalidIngressInterface { cons_dir, .. } => interface_error(cons_dir),
-        StandardRoutingError::UnknownIngressInterface { cons_dir, .. } => interface_error(cons_dir),
-        StandardRoutingError::InvalidEgressInterface { cons_dir, .. } => interface_error(!cons_dir),
-        StandardRoutingError::UnknownEgressInterface { cons_dir, .. } => interface_error(!cons_dir),
-        StandardRoutingError::FutureTimestamp { .. } => ScmpError::ParameterProblem {
-            code: INVALID_PATH,
-            pointer: 0,
-        },
-        StandardRoutingError::SegmentExpired { .. } => ScmpError::ParameterProblem {
-            code: PATH_EXPIRED,
-            pointer: 0,
-        },
-        StandardRoutingError::InvalidMacError { .. } => ScmpError::ParameterProblem {
-            code: INVALID_HOP_FIELD_MAC,
-            pointer: 0,
-        },
-        StandardRoutingError::InvalidSegmentChange { .. } => ScmpError::ParameterProblem {
-            code: INVALID_SEGMENT_CHANGE,
-            pointer: 0,
-        },
-        StandardRoutingError::InvalidScmpAlert { .. } => ScmpError::ParameterProblem {
-            code: ERRONEOUS_HEADER_FIELD,
-            pointer: 0,
-        },
-        StandardRoutingError::EgressInterfaceDown { if_id, .. } => {
-            ScmpError::ExternalInterfaceDown {
-                interface_id: if_id,
-            }
+    fn from(code: ScmpParameterProblemCode) -> u8 {
+        match code {
+            ScmpParameterProblemCode::ErroneousHeaderField => 0,
+            ScmpParameterProblemCode::InvalidPath => 48,
+            ScmpParameterProblemCode::UnknownHopFieldConsIngressInterface => 49,
+            ScmpParameterProblemCode::UnknownHopFieldConsEgressInterface => 50,
+            ScmpParameterProblemCode::InvalidHopFieldMac => 51,
+            ScmpParameterProblemCode::PathExpired => 52,
+            ScmpParameterProblemCode::InvalidSegmentChange => 53,
         }
     }
+}
+
+#[derive(Clone, Copy)]
+pub enum ScmpError {
+    ParameterProblem {
+        code: ScmpParameterProblemCode,
+        pointer: u32,
+    },
+    ExternalInterfaceDown {
+        interface_id: u16,
+    },
+}
+
+// The hop field names the interface as its ConsIngress or as its ConsEgress.
+fn interface_code(is_cons_ingress: bool) -> ScmpParameterProblemCode
+    ensures { result ≡ interface_code is_cons_ingress }
+{
+    if is_cons_ingress {
+        ScmpParameterProblemCode::UnknownHopFieldConsIngressInterface
+    } else {
+        ScmpParameterProblemCode::UnknownHopFieldConsEgressInterface
+    }
+}
+
+// None for a malformed path or an unsound table: there is no one to answer.
+#[tactic(auto, unfolding(crate::specs::Scmp::to_scmp_error))]
+pub fn to_scmp_error(why: StandardRoutingError) -> Option<ScmpError>
+    ensures { result ≡ to_scmp_error why }
+{
+    let code = match why {
+        StandardRoutingError::UnsoundTable
+        | StandardRoutingError::HeaderFailed(_)
+        | StandardRoutingError::AdvanceFailed(_) => return None,
+        StandardRoutingError::EgressInterfaceDown { if_id, .. } => {
+            return Some(ScmpError::ExternalInterfaceDown {
+                interface_id: if_id,
+            });
+        }
+        StandardRoutingError::InvalidIngressInterface { cons_dir, .. } => interface_code(cons_dir),
+        StandardRoutingError::UnknownIngressInterface { cons_dir, .. } => interface_code(cons_dir),
+        StandardRoutingError::InvalidEgressInterface { cons_dir, .. } => interface_code(!cons_dir),
+        StandardRoutingError::UnknownEgressInterface { cons_dir, .. } => interface_code(!cons_dir),
+        StandardRoutingError::FutureTimestamp { .. } => ScmpParameterProblemCode::InvalidPath,
+        StandardRoutingError::SegmentExpired { .. } => ScmpParameterProblemCode::PathExpired,
+        StandardRoutingError::InvalidMacError { .. } =>
+            ScmpParameterProblemCode::InvalidHopFieldMac,
+        StandardRoutingError::InvalidSegmentChange { .. } => {
+            ScmpParameterProblemCode::InvalidSegmentChange
+        }
+        StandardRoutingError::InvalidScmpAlert { .. } => {
+            ScmpParameterProblemCode::ErroneousHeaderField
+        }
+    };
+    Some(ScmpError::ParameterProblem { code, pointer: 0 })
 }
