@@ -7,51 +7,49 @@ ghost use Rattle.std.specs.Prelude.{◌≡◌};
 ghost use Rattle.records.specs.Layout.{layout_of};
 ghost use Rattle.record_rules.specs.Rules.{size_sound, index_sound, next_sound, are_zero, zeros_sound, head_sound};
 
+use records::Itinerary;
 use records::form::Form;
 use records::layout::{HeadLayout, InterfaceRecordLayout, StationLayout};
 
-pub fn is_size_sound(form: Form, itinerary: &[u8]) -> bool
-    ensures { result ≡ size_sound (layout_of form) itinerary.now }
+#[tactic(auto, unfolding(crate::specs::Rules::size_sound))]
+pub fn is_size_sound(itinerary: Itinerary<'_>) -> bool
+    ensures { result ≡ size_sound (layout_of itinerary.entry.form) itinerary.entry.bytes.now }
 {
-    let count = records::record_count(form, itinerary);
-    (itinerary.len() % form.record_bytes() == 0) & (1 <= count) & (count <= form.max_records())
+    let count = itinerary.record_count();
+    (itinerary.bytes.len() % itinerary.form.record_bytes() == 0)
+        & (1 <= count)
+        & (count <= itinerary.form.max_records())
 }
 
-pub fn is_index_sound(form: Form, itinerary: &[u8], index: u32) -> bool
-    ensures { result ≡ index_sound (layout_of form) itinerary.now index }
+pub fn is_index_sound(itinerary: Itinerary<'_>, index: u32) -> bool
+    ensures { result ≡ index_sound (layout_of itinerary.entry.form) itinerary.entry.bytes.now index }
 {
-    (index as usize) < records::record_count(form, itinerary)
+    (index as usize) < itinerary.record_count()
 }
 
-pub fn is_next_sound(form: Form, itinerary: &[u8], index: u32) -> bool
-    ensures { result ≡ next_sound (layout_of form) itinerary.now index }
+#[tactic(auto, unfolding(crate::specs::Rules::next_sound))]
+pub fn is_next_sound(itinerary: Itinerary<'_>, index: u32) -> bool
+    ensures { result ≡ next_sound (layout_of itinerary.entry.form) itinerary.entry.bytes.now index }
 {
-    let next = records::next(form, itinerary, index);
-    (next == 0) | ((index < next) & is_index_sound(form, itinerary, next))
+    let next = itinerary.next(index);
+    (next == 0) | ((index < next) & is_index_sound(itinerary, next))
 }
 
-// ---- the bytes that are named zero
+// ---- the bytes that are named zero: a function for each kind of record, since ranges handed over as a list would be picked in as many places
 
-fn are_zero(form: Form, itinerary: &[u8], index: u32, field: u8, count: u8) -> bool
-    ensures { result ≡ are_zero (layout_of form) itinerary.now index field count }
+fn are_zero(itinerary: Itinerary<'_>, index: u32, field: u8, count: u8) -> bool
+    ensures { result ≡ are_zero (layout_of itinerary.entry.form) itinerary.entry.bytes.now index field count }
 {
-    let at = form.offset(index, field);
-    let mut i: u8 = 0;
-    while i < count {
-        if octets::byte_at(itinerary, at + (i as usize)) != 0 {
-            return false;
-        }
-        i += 1;
-    }
-    true
+    let at = itinerary.form.offset(index, field);
+    (0..count).all(|i| octets::byte_at(itinerary.bytes, at + (i as usize)) == 0)
 }
 
-pub fn are_interface_zeros_sound(form: Form, itinerary: &[u8], index: u32) -> bool
-    ensures { result ≡ zeros_sound (layout_of form) itinerary.now (layout_of form).interface_zeros index }
+#[tactic(auto, unfolding(crate::specs::Rules::zeros_sound, records::specs::Records::every))]
+pub fn are_interface_zeros_sound(itinerary: Itinerary<'_>, index: u32) -> bool
+    ensures { result ≡ zeros_sound (layout_of itinerary.entry.form) itinerary.entry.bytes.now (layout_of itinerary.entry.form).interface_zeros index }
 {
-    match form {
+    match itinerary.form {
         Form::Narrow => are_zero(
-            form,
             itinerary,
             index,
             InterfaceRecordLayout::ZEROS,
@@ -60,19 +58,18 @@ pub fn are_interface_zeros_sound(form: Form, itinerary: &[u8], index: u32) -> bo
     }
 }
 
-pub fn are_station_zeros_sound(form: Form, itinerary: &[u8], index: u32) -> bool
-    ensures { result ≡ zeros_sound (layout_of form) itinerary.now (layout_of form).station_zeros index }
+#[tactic(auto, unfolding(crate::specs::Rules::zeros_sound, records::specs::Records::every))]
+pub fn are_station_zeros_sound(itinerary: Itinerary<'_>, index: u32) -> bool
+    ensures { result ≡ zeros_sound (layout_of itinerary.entry.form) itinerary.entry.bytes.now (layout_of itinerary.entry.form).station_zeros index }
 {
-    match form {
+    match itinerary.form {
         Form::Narrow => {
             are_zero(
-                form,
                 itinerary,
                 index,
                 StationLayout::ZEROS,
                 StationLayout::ZEROS_BYTES,
             ) & are_zero(
-                form,
                 itinerary,
                 index,
                 StationLayout::LAST_ZEROS,
@@ -82,25 +79,20 @@ pub fn are_station_zeros_sound(form: Form, itinerary: &[u8], index: u32) -> bool
     }
 }
 
-fn are_head_zeros_sound(form: Form, itinerary: &[u8]) -> bool
-    ensures { result ≡ zeros_sound (layout_of form) itinerary.now (layout_of form).head_zeros 0 }
+#[tactic(auto, unfolding(crate::specs::Rules::zeros_sound, records::specs::Records::every))]
+fn are_head_zeros_sound(itinerary: Itinerary<'_>) -> bool
+    ensures { result ≡ zeros_sound (layout_of itinerary.entry.form) itinerary.entry.bytes.now (layout_of itinerary.entry.form).head_zeros 0 }
 {
-    match form {
-        Form::Narrow => are_zero(
-            form,
-            itinerary,
-            0,
-            HeadLayout::ZEROS,
-            HeadLayout::ZEROS_BYTES,
-        ),
+    match itinerary.form {
+        Form::Narrow => are_zero(itinerary, 0, HeadLayout::ZEROS, HeadLayout::ZEROS_BYTES),
     }
 }
 
 // ---- record 0
 
-pub fn is_head_sound(form: Form, itinerary: &[u8]) -> bool
-    ensures { result ≡ head_sound (layout_of form) itinerary.now }
+#[tactic(auto, unfolding(crate::specs::Rules::head_sound))]
+pub fn is_head_sound(itinerary: Itinerary<'_>) -> bool
+    ensures { result ≡ head_sound (layout_of itinerary.entry.form) itinerary.entry.bytes.now }
 {
-    are_head_zeros_sound(form, itinerary)
-        & is_index_sound(form, itinerary, records::next(form, itinerary, 0))
+    are_head_zeros_sound(itinerary) & is_index_sound(itinerary, itinerary.next(0))
 }

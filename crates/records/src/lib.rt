@@ -24,6 +24,7 @@ pub struct Itinerary<'a> {
 }
 
 impl<'a> Itinerary<'a> {
+    #[tactic(auto, unfolding(crate::specs::Records::record_count))]
     pub fn record_count(self) -> usize
         ensures { result ≡ record_count (layout_of self.entry.form) self.entry.bytes.now }
     {
@@ -52,6 +53,7 @@ impl<'a> Itinerary<'a> {
     // ---- any record
 
     // The record after this one in its chain, 0 after the last; the first station's for record 0.
+    #[tactic(auto, unfolding(crate::specs::Records::next_of))]
     pub fn next(self, index: u32) -> u32
         ensures { result ≡ next_of (layout_of self.entry.form) self.entry.bytes.now index }
     {
@@ -60,6 +62,7 @@ impl<'a> Itinerary<'a> {
 
     // ---- a station
 
+    #[tactic(auto, unfolding(crate::specs::Records::arrival_of))]
     pub fn arrival(self, station: u32) -> u16
         ensures { result ≡ arrival_of (layout_of self.entry.form) self.entry.bytes.now station }
     {
@@ -67,6 +70,7 @@ impl<'a> Itinerary<'a> {
     }
 
     // Where the station's table starts, 0 for an empty one.
+    #[tactic(auto, unfolding(crate::specs::Records::first_interface_of))]
     pub fn first_interface(self, station: u32) -> u32
         ensures { result ≡ first_interface_of (layout_of self.entry.form) self.entry.bytes.now station }
     {
@@ -82,12 +86,14 @@ impl<'a> Itinerary<'a> {
 
     // ---- an interface record
 
+    #[tactic(auto, unfolding(crate::specs::Records::interface_number_of))]
     pub fn interface_number(self, index: u32) -> u16
         ensures { result ≡ interface_number_of (layout_of self.entry.form) self.entry.bytes.now index }
     {
         self.u16_field(index, self.form.number())
     }
 
+    #[tactic(auto, unfolding(crate::specs::Records::interface_state_of))]
     pub fn interface_state(self, index: u32) -> u8
         ensures { result ≡ interface_state_of (layout_of self.entry.form) self.entry.bytes.now index }
     {

@@ -1,9 +1,0 @@
-use mathlib.Core.Bool.{and-true}
-use Rattle.records.specs.Records.{every}
-use Rattle.records.proofs.Forms.{is_narrow}
-use Rattle.record_rules.specs.Rules.{zeros_sound}
-use Rattle.record_rules.proofs.are_head_zeros_sound.Goals as goal
-
-pub returns : goal.returns
-unfolding zeros_sound every
-returns c = let form = c.args.form in rw (is_narrow form, and-true) (rw (is_narrow form) at c.are_zero.ensures)
