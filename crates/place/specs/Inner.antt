@@ -5,16 +5,13 @@ use Rattle.standard_path.specs.Meta.{curr_hf}
 use Rattle.answers.specs.Questions.{Questions}
 use Rattle.answers.specs.declared.AdvanceError.TheVariants.{HopOutOfBounds, SegmentEnd, MisplacedPeering}
 use Rattle.answers.specs.declared.StandardRoutingError.TheVariants.{AdvanceFailed}
-use Rattle.answers.specs.declared.Validation.{Validation}
-use Rattle.answers.specs.declared.Validation.TheVariants.{Valid, Invalid}
-use Rattle.place.specs.Place.{place_questions, is_final, ends}
-use Rattle.place.specs.declared.Located.{Located}
-use Rattle.place.specs.declared.Located.TheVariants.{Here, Nowhere}
+use Rattle.edition.specs.declared.Edition.{Edition}
+use Rattle.place.specs.Place.{place_questions, changes, is_final, ends}
+use Rattle.place.specs.declared.Place.{Place}
 
--- whether the hop `changes` segment and is the last, or why the path cannot go on
-abbrev pub located : Validation → Bool → Bool → Located
-located Valid change last = Here change last
-located (Invalid why) change last = Nowhere why
+-- where the path stands at ingress
+abbrev pub stands : Edition → List ℕ → Place
+stands edition path = record { change = changes edition path; last = is_final path }
 
 -- `egress_place`, with what the edition makes of the path lent: whether 28's rule holds, and whether the hop is the first peering hop.
 -- With these it is `egress_place`: `placed_by` in proofs/Places.antt

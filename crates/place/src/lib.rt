@@ -7,59 +7,36 @@
 // Licensed under the Apache License, Version 2.0: see NOTICE.
 #![tactic(auto)]
 
-ghost use Rattle.std.specs.Prelude.{◌≡◌};
-ghost use Rattle.questions.specs.Questions.{within};
-ghost use Rattle.standard_path.specs.Header.{header_questions};
+ghost use Rattle.std.specs.Prelude.{◌≡◌, Ok, Err};
+ghost use Rattle.questions.specs.Questions.{asks};
 ghost use Rattle.answers.specs.Questions.{first_no};
-ghost use Rattle.answers.specs.declared.StandardRoutingError.TheVariants.{HeaderFailed};
 ghost use Rattle.edition.specs.Edition.{peering_questions};
-ghost use Rattle.place.specs.Place.{before, next_hop, next_info, ingress_place, changes, crosses, is_final, is_peering_hop};
-ghost use Rattle.place.specs.Inner.{located, egress_place_by};
+ghost use Rattle.place.specs.Place.{before, next_hop, next_info, ingress_place, crosses, is_final, is_peering_hop};
+ghost use Rattle.place.specs.Inner.{stands, egress_place_by};
 
-use answers::{AdvanceError, StandardRoutingError, Validation};
+use answers::{AdvanceError, StandardRoutingError};
 use edition::Edition;
+use interface_table::InterfaceTable;
 use standard_path::view;
-use standard_path::view::{HeaderCheck, SegmentIndex};
+use standard_path::view::SegmentIndex;
 
 // Where the path stands: whether its hop makes a segment change, and whether it is the path's last.
 #[derive(Clone, Copy)]
-pub enum Located {
-    Here { change: bool, last: bool },
-    Nowhere(StandardRoutingError),
-}
-
-// Questions 2 to 4.
-fn check_header(path: &[u8]) -> Validation
-    ensures { result ≡ first_no (within HeaderFailed (header_questions path.now)) }
-{
-    match view::check_header(path) {
-        HeaderCheck::Complete => Validation::Valid,
-        HeaderCheck::Failed(error) => {
-            Validation::Invalid(StandardRoutingError::HeaderFailed(error))
-        }
-    }
+pub struct Place {
+    pub change: bool,
+    pub last: bool,
 }
 
 // Questions 1 to 4.
-pub fn check_before(ids: &[u16], states: &[u8], path: &[u8]) -> Validation
-    ensures { result ≡ first_no (before ids.now states.now path.now) }
+#[tactic(auto, unfolding(questions::specs::Questions::asks, standard_path::specs::Header::header_check))]
+pub fn check_before(interfaces: InterfaceTable<'_>, path: &[u8]) -> Result<(), StandardRoutingError>
+    ensures { result ≡ first_no (before interfaces.entry.ids.now interfaces.entry.states.now path.now) }
 {
-    if interface_table::is_sound(ids, states) {
-        return check_header(path);
+    if !interfaces.is_sound() {
+        return Err(StandardRoutingError::UnsoundTable);
     }
-    Validation::Invalid(StandardRoutingError::UnsoundTable)
-}
-
-fn refused(why: AdvanceError) -> Validation
-    ensures { result ≡ Validation.Invalid (StandardRoutingError.AdvanceFailed why) }
-{
-    Validation::Invalid(StandardRoutingError::AdvanceFailed(why))
-}
-
-fn failed(why: AdvanceError) -> Located
-    ensures { result ≡ Located.Nowhere (StandardRoutingError.AdvanceFailed why) }
-{
-    Located::Nowhere(StandardRoutingError::AdvanceFailed(why))
+    view::check_header(path)?;
+    Ok(())
 }
 
 fn is_final(path: &[u8]) -> bool
@@ -95,86 +72,81 @@ pub fn next_info_field(path: &[u8]) -> &[u8]
 }
 
 // Question 28, and then where the path stands.
-fn placed(edition: Edition, path: &[u8], change: bool, last: bool) -> Located
-    ensures { result ≡ located (first_no (peering_questions edition path.now)) change last }
+#[tactic(auto, unfolding(questions::specs::Questions::asks))]
+fn placed(edition: Edition, path: &[u8], place: Place) -> Result<Place, StandardRoutingError>
+    ensures { result ≡ asks Err (peering_questions edition path.now) (Ok place) }
 {
-    if edition::peering_fits(edition, path) {
-        return Located::Here { change, last };
+    if !edition::peering_fits(edition, path) {
+        return Err(AdvanceError::MisplacedPeering.into());
     }
-    failed(AdvanceError::MisplacedPeering)
+    Ok(place)
 }
 
 // Questions 5 to 8, and 28.
-pub fn locate_ingress(edition: Edition, path: &[u8]) -> Located
-    ensures { result ≡ located (first_no (ingress_place edition path.now))
-        (changes edition path.now) (is_final path.now) }
+#[tactic(auto, unfolding(questions::specs::Questions::asks, standard_path::specs::Header::segment_index, standard_path::specs::Header::segment_among, standard_path::specs::Header::hops))]
+pub fn locate_ingress(edition: Edition, path: &[u8]) -> Result<Place, StandardRoutingError>
+    ensures { result ≡ asks Err (ingress_place edition path.now) (Ok (stands edition path.now)) }
 {
     let peers = edition::is_peering_path(edition, path);
     let peer = is_peering_hop(edition, path);
     let hop = view::curr_hop_field_idx(path);
-    let SegmentIndex::At { index, start, end } = view::calculate_segment_index(path, hop) else {
-        return failed(AdvanceError::HopOutOfBounds(hop));
-    };
-    if !(peers | !(start & end)) {
-        return failed(AdvanceError::SingleHopSegment);
+    let SegmentIndex { index, start, end } = view::calculate_segment_index(path, hop).ok_or(
+        AdvanceError::HopOutOfBounds(hop),
+    )?;
+    if !peers && start && end {
+        return Err(AdvanceError::SingleHopSegment.into());
     }
     let actual = view::curr_info_field_idx(path);
     if index != actual {
-        return failed(AdvanceError::InvalidSegmentIndex {
+        return Err(AdvanceError::InvalidSegmentIndex {
             expected: index,
             actual,
-        });
+        }
+        .into());
     }
     let infos = view::info_field_count(path);
     if infos <= actual {
-        return failed(AdvanceError::InfoOutOfBounds(actual));
+        return Err(AdvanceError::InfoOutOfBounds(actual).into());
     }
     let last = is_final(path);
-    if !peer & (end & !last) {
-        if infos <= index + 1 {
-            return failed(AdvanceError::InfoOutOfBounds(index + 1));
-        }
-        return placed(edition, path, true, last);
+    let change = !peer && end && !last;
+    if change && infos <= index + 1 {
+        return Err(AdvanceError::InfoOutOfBounds(index + 1).into());
     }
-    placed(edition, path, false, last)
+    placed(edition, path, Place { change, last })
 }
 
 // Questions 5, 7, 8, 28, 5 for the next hop, and 18. The caller asks what the edition makes of the path, for speed: this function then
 // lends its path to no other.
-pub fn locate_egress(path: &[u8], fits: bool, crossing: bool) -> Validation
+#[tactic(auto, unfolding(questions::specs::Questions::asks, standard_path::specs::Header::segment_index, standard_path::specs::Header::segment_among, standard_path::specs::Header::hops))]
+pub fn locate_egress(path: &[u8], fits: bool, crossing: bool) -> Result<(), StandardRoutingError>
     ensures { result ≡ first_no (egress_place_by path.now fits crossing) }
 {
     let hop = view::curr_hop_field_idx(path);
     let infos = view::info_field_count(path);
     let hops = view::hop_field_count(path);
-    let SegmentIndex::At {
-        index,
-        start: _,
-        end,
-    } = view::calculate_segment_index(path, hop)
-    else {
-        return refused(AdvanceError::HopOutOfBounds(hop));
-    };
+    let SegmentIndex { index, end, .. } = view::calculate_segment_index(path, hop).ok_or(
+        AdvanceError::HopOutOfBounds(hop),
+    )?;
     let actual = view::curr_info_field_idx(path);
     if index != actual {
-        return refused(AdvanceError::InvalidSegmentIndex {
+        return Err(AdvanceError::InvalidSegmentIndex {
             expected: index,
             actual,
-        });
+        }
+        .into());
     }
     if infos <= actual {
-        return refused(AdvanceError::InfoOutOfBounds(actual));
+        return Err(AdvanceError::InfoOutOfBounds(actual).into());
     }
     if !fits {
-        return refused(AdvanceError::MisplacedPeering);
+        return Err(AdvanceError::MisplacedPeering.into());
     }
     if hops <= hop + 1 {
-        return refused(AdvanceError::HopOutOfBounds(hop + 1));
+        return Err(AdvanceError::HopOutOfBounds(hop + 1).into());
     }
-    if end {
-        if !crossing {
-            return refused(AdvanceError::SegmentEnd);
-        }
+    if end && !crossing {
+        return Err(AdvanceError::SegmentEnd.into());
     }
-    Validation::Valid
+    Ok(())
 }
