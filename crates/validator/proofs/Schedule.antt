@@ -8,8 +8,9 @@ use Rattle.aes_keys.specs.KeyExpansion.{round_keys}
 use Rattle.aes.specs.ByTable.{round_table, cipher_by}
 use Rattle.cmac.specs.Cmac.{subkey1}
 use Rattle.hop_mac.proofs.HopMac.{hop_mac_from_schedule}
+use Rattle.std.specs.Prelude.{Result}
+use Rattle.answers.specs.declared.StandardRoutingError.{StandardRoutingError}
 use Rattle.answers.specs.Questions.{first_no}
-use Rattle.answers.specs.declared.Validation.{Validation}
 use Rattle.validator.specs.Check.{key_mac, mac_questions}
 use Rattle.validator.specs.Inner.{schedule_mac}
 
@@ -20,7 +21,7 @@ schedule_law key p q r = λ i seg_id start units ingress egress. hop_mac_from_sc
 -- 12, asked with a schedule's MAC of fields that were read
 pub mac_asked : (key : List ℕ) {t k1 : List ℕ} {w : List (List ℕ)} → t ≡ round_table → w ≡ round_keys key → k1 ≡ subkey1 (cipher_by t w)
     → {ignored : Bool} → ignored ≡ false
-    → {index read_index seg_id read_seg_id : ℕ} {hop read_hop info read_info : List ℕ} {answer : Validation}
+    → {index read_index seg_id read_seg_id : ℕ} {hop read_hop info read_info : List ℕ} {answer : Result Unit StandardRoutingError}
     → answer ≡ first_no (mac_questions (schedule_mac t w k1) false read_index read_hop read_info read_seg_id)
     → read_index ≡ index → read_hop ≡ hop → read_info ≡ info → read_seg_id ≡ seg_id
     → answer ≡ first_no (mac_questions (key_mac key) ignored index hop info seg_id)

@@ -1,12 +1,10 @@
 -- 01, 'Questions in order': questions 9 to 12 and 19 of a hop, and 13 to 16 of a segment change.
 -- Assumes nothing.
-use Rattle.std.specs.Prelude.{ℕ, ◌+◌, ◌*◌, Bool, true, false, not, ◌||◌, cond, List, [], ◌∷◌, ◌++◌, eqb, leb}
+use Rattle.std.specs.Prelude.{ℕ, ◌+◌, ◌*◌, Bool, true, false, not, ◌||◌, cond, List, [], ◌∷◌, ◌++◌, eqb, leb, Option, Some, None}
 use Rattle.octets.specs.Bytes.{be16_at, be32_at}
 use Rattle.hop_mac.specs.Mac.{hop_mac}
 use Rattle.fields.specs.Fields.{cons_dir, timestamp, exp_time, cons_ingress, cons_egress, mac_field, travel_ingress, travel_egress, travel_ingress_alert, travel_egress_alert, expiry}
 use Rattle.interface_table.specs.Table.{state_of, link_type, is_up, pair_allowed}
-use Rattle.interface_table.specs.declared.Listed.{Listed}
-use Rattle.interface_table.specs.declared.Listed.TheVariants.{State, Nothing}
 use Rattle.answers.specs.Questions.{Questions}
 use Rattle.validator.specs.declared.StandardValidator.{StandardValidator}
 use Rattle.answers.specs.declared.StandardRoutingError.{StandardRoutingError}
@@ -68,21 +66,21 @@ mac_questions mac ignored index hop info seg_id = (
 abbrev pub hop_questions : MacFunction → StandardValidator → ℕ → List ℕ → List ℕ → ℕ → Questions
 hop_questions mac at index hop info seg_id = field_questions at index hop info ++ mac_questions mac at.ignore_macs index hop info seg_id
 
-abbrev pub is_listed : Listed → Bool
-is_listed (State state) = true
-is_listed Nothing = false
+abbrev pub is_listed : Option ℕ → Bool
+is_listed (Some state) = true
+is_listed None = false
 
-abbrev pub is_up_listed : Listed → Bool
-is_up_listed (State state) = is_up state
-is_up_listed Nothing = false
+abbrev pub is_up_listed : Option ℕ → Bool
+is_up_listed (Some state) = is_up state
+is_up_listed None = false
 
 -- the link type of a listed interface; where one is not listed, 14, 15 or the journey check's own test of it has said no already
-abbrev pub link_of : Listed → ℕ
-link_of (State state) = link_type state
-link_of Nothing = 0
+abbrev pub link_of : Option ℕ → ℕ
+link_of (Some state) = link_type state
+link_of None = 0
 
 -- 14 to 16, of what the table has for the interface in and the interface out
-abbrev pub link_questions : Listed → Listed → ℕ → List ℕ → List ℕ → List ℕ → List ℕ → Questions
+abbrev pub link_questions : Option ℕ → Option ℕ → ℕ → List ℕ → List ℕ → List ℕ → List ℕ → Questions
 link_questions listed_in listed_out index hop info next_hop next_info =
     (is_listed listed_in, UnknownIngressInterface index (travel_ingress (cons_dir info) hop) (cons_dir info))
     ∷ (is_listed listed_out, UnknownEgressInterface index (travel_egress (cons_dir next_info) next_hop) (cons_dir next_info))

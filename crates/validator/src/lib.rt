@@ -6,13 +6,14 @@
 // Licensed under the Apache License, Version 2.0: see NOTICE.
 #![tactic(auto)]
 
-ghost use Rattle.std.specs.Prelude.{◌≡◌, ◌||◌, false, ◌+◌, ◌*◌, eqb};
+ghost use Rattle.std.specs.Prelude.{◌≡◌, ◌||◌, false, eqb};
 ghost use Rattle.answers.specs.Questions.{first_no};
 ghost use Rattle.validator.specs.Check.{mac_number, interface_fits, wrong_interface, right_mac};
 ghost use Rattle.validator.specs.Inner.{schedule_mac};
 ghost use Rattle.validator.specs.Check.{field_questions, mac_questions};
 
-use answers::{StandardRoutingError, Validation};
+use answers::StandardRoutingError;
+use cmac::KeySchedule;
 use hop_mac::calculate_hop_mac_with;
 
 // Where a hop is checked: at ingress or at egress, on which interface, when, and whether its MAC is not asked for.
@@ -24,46 +25,26 @@ pub struct StandardValidator {
     pub ignore_macs: bool,
 }
 
-fn join(high: u16, low: u32) -> u64
-    ensures { result ≡ high * 4294967296 + low }
-{
-    (high as u64) * 0x1_0000_0000 + (low as u64)
-}
-
 // The six bytes of a MAC as one number.
+#[tactic(auto, unfolding(crate::specs::Check::mac_number))]
 pub fn mac_number(mac: [u8; 6]) -> u64
     ensures { result ≡ mac_number mac }
 {
-    join(octets::u16_at(&mac, 0), octets::u32_at(&mac, 2))
+    u64::from_be_bytes([0, 0, mac[0], mac[1], mac[2], mac[3], mac[4], mac[5]])
 }
 
 fn arrives(interface: u16, found: u16) -> bool
     ensures { result ≡ (eqb interface 0 || eqb found 0 || eqb found interface) }
 {
-    if interface == 0 {
-        return true;
-    }
-    if found == 0 {
-        return true;
-    }
-    found == interface
+    interface == 0 || found == 0 || found == interface
 }
 
 // The MAC that a hop should have, as a number.
-pub fn expected_mac(
-    table: &[u8; 1024],
-    round_keys: [[u8; 16]; 11],
-    k1: [u8; 16],
-    hop: &[u8],
-    info: &[u8],
-    segment_id: u16,
-) -> u64
-    ensures { result ≡ right_mac (schedule_mac table.now round_keys k1) hop.now info.now segment_id }
+pub fn expected_mac(schedule: KeySchedule<'_>, hop: &[u8], info: &[u8], segment_id: u16) -> u64
+    ensures { result ≡ right_mac (schedule_mac schedule.entry.table.now schedule.entry.round_keys schedule.entry.k1) hop.now info.now segment_id }
 {
     let mac = calculate_hop_mac_with(
-        table,
-        round_keys,
-        k1,
+        schedule,
         segment_id,
         fields::timestamp(info),
         fields::exp_time(hop),
@@ -110,43 +91,48 @@ impl StandardValidator {
     }
 
     // Questions 9 to 11 at ingress, 19, 10 and 11 at egress: those that ask for no MAC.
-    pub fn validate_hop(self, hop_index: u8, hop: &[u8], info: &[u8]) -> Validation
+    #[tactic(auto, unfolding(questions::specs::Questions::asks))]
+    pub fn validate_hop(
+        self,
+        hop_index: u8,
+        hop: &[u8],
+        info: &[u8],
+    ) -> Result<(), StandardRoutingError>
         ensures { result ≡ first_no (field_questions self hop_index hop.now info.now) }
     {
         if !self.interface_fits(hop, info) {
-            return Validation::Invalid(self.wrong_interface(hop_index, hop, info));
+            return Err(self.wrong_interface(hop_index, hop, info));
         }
         if self.time < fields::timestamp(info) {
-            return Validation::Invalid(StandardRoutingError::FutureTimestamp { hop_index });
+            return Err(StandardRoutingError::FutureTimestamp { hop_index });
         }
         if fields::expiry_timestamp(hop, info) < self.time {
-            return Validation::Invalid(StandardRoutingError::SegmentExpired { hop_index });
+            return Err(StandardRoutingError::SegmentExpired { hop_index });
         }
-        Validation::Valid
+        Ok(())
     }
 }
 
 // Question 12, wherever MACs are checked.
+#[tactic(auto, unfolding(questions::specs::Questions::asks))]
 pub fn validate_mac(
-    table: &[u8; 1024],
-    round_keys: [[u8; 16]; 11],
-    k1: [u8; 16],
+    schedule: KeySchedule<'_>,
     hop_index: u8,
     hop: &[u8],
     info: &[u8],
     segment_id: u16,
-) -> Validation
-    ensures { result ≡ first_no (mac_questions (schedule_mac table.now round_keys k1) false hop_index
+) -> Result<(), StandardRoutingError>
+    ensures { result ≡ first_no (mac_questions (schedule_mac schedule.entry.table.now schedule.entry.round_keys schedule.entry.k1) false hop_index
         hop.now info.now segment_id) }
 {
-    let expected = expected_mac(table, round_keys, k1, hop, info, segment_id);
+    let expected = expected_mac(schedule, hop, info, segment_id);
     let actual = mac_number(fields::mac(hop));
-    if expected == actual {
-        return Validation::Valid;
+    if expected != actual {
+        return Err(StandardRoutingError::InvalidMacError {
+            hop_index,
+            expected,
+            actual,
+        });
     }
-    Validation::Invalid(StandardRoutingError::InvalidMacError {
-        hop_index,
-        expected,
-        actual,
-    })
+    Ok(())
 }
