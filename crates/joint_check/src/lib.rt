@@ -87,14 +87,8 @@ pub fn joints_fit(
     ensures { result ≡ each_below (infos path.now - 1) (λ s. joint_fits_from edition (layout_of form) itinerary.now
         (get_or firsts (s + 1) 0) path.now s) }
 {
-    let infos = view::info_field_count(path);
-    let mut segment: u8 = 0;
-    while segment + 1 < infos {
-        let first = firsts[(segment + 1) as usize];
-        if !joint_fits(form, edition, itinerary, first, path, segment) {
-            return false;
-        }
-        segment += 1;
-    }
-    true
+    let joints = view::info_field_count(path).saturating_sub(1);
+    (0..joints).zip(firsts[1..].iter()).all(|(segment, first)| joint_fits(
+        form, edition, itinerary, *first, path, segment,
+    ))
 }

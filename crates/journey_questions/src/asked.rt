@@ -48,13 +48,5 @@ fn is_hop_quiet(hop: &[u8]) -> bool
 pub fn is_quiet(path: &[u8]) -> bool
     ensures { result ≡ quiet path.now }
 {
-    let hops = view::hop_field_count(path);
-    let mut index: u8 = 0;
-    while index < hops {
-        if !is_hop_quiet(view::hop_field(path, index)) {
-            return false;
-        }
-        index += 1;
-    }
-    true
+    (0..view::hop_field_count(path)).all(|index| is_hop_quiet(view::hop_field(path, index)))
 }

@@ -43,12 +43,7 @@ pub fn first_hop(path: &[u8], segment: u8) -> &[u8]
 pub fn last_place(path: &[u8], segment: u8) -> u8
     ensures { result ≡ start_of path.now segment + (count_of path.now segment - 1) }
 {
-    let start = segment_start(path, segment);
-    let count = hop_count(path, segment);
-    if count == 0 {
-        return start;
-    }
-    start + (count - 1)
+    segment_start(path, segment) + hop_count(path, segment).saturating_sub(1)
 }
 
 pub fn last_hop(path: &[u8], segment: u8) -> &[u8]

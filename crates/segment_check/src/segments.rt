@@ -69,8 +69,7 @@ fn segment_fits(
     let count = hops::hop_count(path, segment);
     let mut station = first;
     let mut segment_id = fields::segment_id(info);
-    let mut hop: u8 = 0;
-    while hop < count {
+    for hop in 0..count {
         segment_id = chained_segment_id(edition, path, segment, segment_id, hop);
         if !hop_fits(
             form,
@@ -87,40 +86,11 @@ fn segment_fits(
             return false;
         }
         station = next_station(form, itinerary, station);
-        hop += 1;
     }
     true
 }
 
 // ---- all segments
-
-fn segments_fit_with(
-    form: Form,
-    edition: Edition,
-    table: &[u8; 1024],
-    itinerary: &[u8],
-    firsts: [u32; 3],
-    earliest: u32,
-    latest: u32,
-    path: &[u8],
-) -> bool
-    requires { table.now ≡ round_table }
-    ensures { result ≡ each_below (infos path.now) (λ s. segment_fits_from edition (layout_of form) itinerary.now
-        (get_or firsts s 0) earliest latest path.now s) }
-{
-    let infos = view::info_field_count(path);
-    let mut segment: u8 = 0;
-    while segment < infos {
-        let first = firsts[segment as usize];
-        if !segment_fits(
-            form, edition, table, itinerary, first, earliest, latest, path, segment,
-        ) {
-            return false;
-        }
-        segment += 1;
-    }
-    true
-}
 
 // Each segment, its first hop at the station with the record given. The round table is copied here, once for all MACs.
 pub fn segments_fit(
@@ -136,7 +106,9 @@ pub fn segments_fit(
         (get_or firsts s 0) earliest latest path.now s) }
 {
     let table = aes::round_table();
-    segments_fit_with(
-        form, edition, &table, itinerary, firsts, earliest, latest, path,
-    )
+    (0..view::info_field_count(path)).zip(firsts.iter()).all(|(segment, first)| {
+        segment_fits(
+            form, edition, &table, itinerary, *first, earliest, latest, path, segment,
+        )
+    })
 }

@@ -1,44 +1,36 @@
-use mathlib.Core.Path.{ap}
-use mathlib.Core.Bool.{not}
-use borrow.Author.Rules.{rules}
-use Prim.Native.Nat.{◌+◌}
-use native.Mathlib.Omega.{arith}
-use Rattle.segment_check.proofs.All.{at_most_three, asked_none, asked_no, asked_yes, asked_all}
+use mathlib.Core.Path.{◌≡◌, ap, ◌∙◌}
+use mathlib.Core.Bool.{Bool}
+use Prim.Native.Nat.{ℕ, ◌<◌, ◌≤◌}
+use lib.ListN.{length, get_or, take, drop}
+use Rattle.std.proofs.Common.{rules, arith, length-drop, add_comm}
+use Rattle.std.proofs.lemmas.List.{get_or-take, length-take}
+use Rattle.std.proofs.lemmas.Grind.{get_or_after_one}
+use Rattle.std.specs.Slice.Iter.{iter_rest}
+use Rattle.std.proofs.iter.Yields.{fronts}
+use Rattle.standard_path.specs.Header.{infos}
+use Rattle.records.specs.Layout.{layout_of}
+use Rattle.segment_check.proofs.All.{all_same, all_beside, serves_beside}
+use Rattle.joint_check.specs.Inner.{joint_fits_from}
 use Rattle.joint_check.proofs.joints_fit.Goals as goal
 
-pub loop-segment-init : goal.loop-segment-init
-loop-segment-init c = asked_none _ _
-
-pub overflow_add-segment : goal.overflow_add-segment
-overflow_add-segment c = omega (arith, c.loop-segment.invariant.within)
-
-pub bounds-firsts-segment : goal.bounds-firsts-segment
-bounds-firsts-segment c =
-    let args = c.args in
-    let loop = c.loop-segment in
-    let info_field_count = c.info_field_count-infos in
-    let few = at_most_three args.path.now (loop.segment + 1) (omega (arith, info_field_count.ensures)) in
-    search rules
-
-pub joint_fits-requires : goal.joint_fits-requires
-joint_fits-requires c =
-    let args = c.args in
-    let info_field_count = c.info_field_count-infos in
-    let few = at_most_three args.path.now (c.loop-segment.segment + 1) (omega (arith, info_field_count.ensures)) in
-    omega arith
-
-pub returns-then-not-joint_fits : goal.returns-then-not-joint_fits
-returns-then-not-joint_fits c =
-    let info_field_count = c.info_field_count-infos in
-    let loop = c.loop-segment in
-    rw (← info_field_count.ensures) (asked_no loop.invariant (omega arith) c.joint_fits.ensures (ap not c.if-not-joint_fits.true))
-
-pub loop-segment-preserved : goal.loop-segment-preserved
-loop-segment-preserved c =
-    let loop = c.loop-segment in
-    asked_yes loop.invariant (omega arith) c.joint_fits.ensures (ap not c.if-not-joint_fits.false)
+pub all-requires-clause-callable : goal.all-requires-clause-callable
+unfolding infos
+all-requires-clause-callable c =
+    let n = c.saturating_sub-joints.result in
+    let few : n ≤ 2 = omega (arith, c.info_field_count.ensures) in
+    let end : c.zip.result.a.end ≡ n = ap (λ k. k.end) c.zip.ensures.first in
+    serves_beside (fronts {A = ℕ}) (λ p x q r. search rules) (λ x l. let m : x.0 < 3 = omega arith in search rules)
 
 pub returns : goal.returns
+unfolding infos
 returns c =
-    let info_field_count = c.info_field_count-infos in
-    rw (← info_field_count.ensures) (asked_all c.loop-segment.invariant (omega arith))
+    let a = c.args in
+    let n = c.saturating_sub-joints.result in
+    let few : n ≤ 2 = omega (arith, c.info_field_count.ensures) in
+    let fits : ℕ → ℕ → Bool = λ s first. joint_fits_from a.edition (layout_of a.form) a.itinerary.now first a.path.now s in
+    let behind = take 2 (drop 1 a.firsts) in
+    let long : n ≤ length behind = omega (arith, length-take 2 (drop 1 a.firsts), length-drop 1 a.firsts) in
+    rw (← c.info_field_count.ensures, ← c.saturating_sub-joints.ensures)
+    (all_beside _ n c.all.new.self c.all.result behind 0 fits long c.zip.ensures.first
+    (ap iter_rest c.zip.ensures.second ∙ c.iter.ensures.rest) c.all.ensures.ran (λ x q k. search rules) (λ x q k. search rules)
+    ∙ all_same n _ _ (λ s l. ap (fits s) (get_or-take 2 (drop 1 a.firsts) s 0 (omega arith) ∙ get_or_after_one a.firsts s 0 ∙ ap (λ i. get_or a.firsts i 0) (add_comm 1 s))))

@@ -1,0 +1,20 @@
+use mathlib.Core.Path.{ap, ◌∙◌}
+use mathlib.Core.Bool.{Bool}
+use Prim.Native.Nat.{ℕ}
+use Rattle.std.proofs.Common.{rules, arith}
+use Rattle.std.specs.Slice.Iter.{iter_rest}
+use Rattle.standard_path.specs.Header.{infos}
+use Rattle.records.specs.Layout.{layout_of}
+use Rattle.segment_check.specs.Segment.{segment_fits_from}
+use Rattle.segment_check.proofs.All.{all_beside}
+use Rattle.segment_check.proofs.segments.segments_fit.Goals as goal
+
+pub returns : goal.returns
+unfolding infos
+returns c =
+    let a = c.args in
+    let fits : ℕ → ℕ → Bool = λ s first. segment_fits_from a.edition (layout_of a.form) a.itinerary.now first a.earliest a.latest a.path.now s in
+    rw (← c.info_field_count.ensures)
+    (all_beside _ c.info_field_count.result c.all.new.self c.all.result a.firsts 0 fits (omega (arith, c.info_field_count.ensures))
+    c.zip.ensures.first (ap iter_rest c.zip.ensures.second ∙ c.iter.ensures.rest) c.all.ensures.ran (λ x q k. search rules)
+    (λ x q k. search rules))
