@@ -1,2 +1,1 @@
 pub mod Expiration
-pub mod Inner

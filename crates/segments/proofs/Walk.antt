@@ -3,18 +3,18 @@
 use mathlib.Core.Path.{◌≡◌, refl, sym, ap, subst, ◌∙◌}
 use mathlib.Core.Bool.{Bool, true, false}
 use mathlib.Core.List.{List, [], ◌∷◌}
-use Prim.Native.Nat.{ℕ, suc, ◌+◌, ◌≤◌, ◌<◌}
+use Prim.Native.Nat.{ℕ, zero, suc, ◌+◌, ◌-◌, ◌≤◌, ◌<◌}
 use native.Mathlib.Omega.{arith}
-use borrow.Author.Tests.{eq-eqb, ne_eqb, le-leb, lt-leb, lt-ltb, le-ltb}
-use lib.Dec.{eqb}
+use borrow.Author.Tests.{eq-eqb, ne_eqb, le-leb, lt-leb, lt-ltb, le-ltb, leb-false, ltb-false}
+use lib.Dec.{eqb, ltb, leb}
 use denote.Ref.{Bor}
 use lib.ListN.{length, get_or}
+use Rattle.std.specs.Prelude.{Option, Some, None}
 use Rattle.standard_path.specs.Header.{hops}
-use Rattle.segments.specs.Segments.{PathSegment, segments_from, lengths, segments, segment_count, seg_len, next_segment, place_after, started, step_of, advanced}
+use Rattle.segments.specs.Segments.{segments_from, lengths, segments, segment_count, seg_len, next_segment, behind, place_after, started, step_of, advanced, steps_within, rest}
 use Rattle.segments.specs.declared.SegmentIterator.{SegmentIterator}
 use Rattle.segments.specs.declared.SegmentPlace.{SegmentPlace}
-use Rattle.segments.specs.declared.SegmentStep.{SegmentStep}
-use Rattle.segments.specs.declared.SegmentStep.TheVariants.{Segment, End}
+use Rattle.segments.specs.declared.Segment.{Segment}
 
 -- the test of a length, from that of what was read
 pub zero_length : {read n : ℕ} → read ≡ n → read ≡ 0 → eqb n 0 ≡ true
@@ -24,38 +24,37 @@ pub nonzero_length : {read n : ℕ} → read ≡ n → (read ≡ 0 → ⊥) → 
 nonzero_length {read} {n} e z = ne_eqb n 0 (λ q. z (e ∙ q))
 
 -- the steps of an iterator to its end, with the segments that they give
-pub data Walk : SegmentIterator → List PathSegment → Type 0 where
-  ends : {at : SegmentIterator} → step_of at ≡ End → Walk at []
-  goes : {at : SegmentIterator} {behind : SegmentPlace} {info first count : ℕ} {rest : List PathSegment}
-      → step_of at ≡ Segment info first count behind → Walk (advanced at) rest
-      → Walk at (record { info = info; first = first; count = count } ∷ rest)
+pub data Walk : SegmentIterator → List Segment → Type 0 where
+  ends : {at : SegmentIterator} → step_of at ≡ None → Walk at []
+  goes : {at : SegmentIterator} {segment : Segment} {more : List Segment} → step_of at ≡ Some segment → Walk (advanced at) more
+      → Walk at (segment ∷ more)
 
 -- there is no other walk from it
-pub walk_only : {at : SegmentIterator} {one other : List PathSegment} → Walk at one → Walk at other → one ≡ other
+pub walk_only : {at : SegmentIterator} {one other : List Segment} → Walk at one → Walk at other → one ≡ other
 walk_only (ends p) (ends q) = refl
 walk_only (ends p) (goes q w) = let z : ◌≡◌ {A = ℕ} 0 1 = cc in absurd (omega arith)
 walk_only (goes p v) (ends q) = let z : ◌≡◌ {A = ℕ} 0 1 = cc in absurd (omega arith)
 walk_only (goes p v) (goes q w) = let rest = walk_only v w in cc
 
 -- past the end there is the end again
-pub end_stays : (at : SegmentIterator) → step_of at ≡ End → advanced at ≡ at
-end_stays at e = ap (λ (step : SegmentStep). record { path = at.path; place = place_after at.place step }) e
+pub end_stays : (at : SegmentIterator) → step_of at ≡ None → advanced at ≡ at
+end_stays at e = ap (λ (step : Option Segment). record { path = at.path; place = place_after at.place step }) e
 
 module _ (path : List ℕ) where
   abbrev pub place : ℕ → ℕ → SegmentPlace
   place s h = record { seg_idx = s; hop_idx = h }
 
   -- a step, by the tests that the code makes
-  pub step_ends : (s h : ℕ) → segment_count path ≤ s → next_segment path (place s h) ≡ End
+  pub step_ends : (s h : ℕ) → segment_count path ≤ s → next_segment path (place s h) ≡ None
   unfolding next_segment
   step_ends s h e = simp (le-leb _ _ e)
 
-  pub step_short : (s h n : ℕ) → s < segment_count path → seg_len path s ≡ n → hops path < h + n → next_segment path (place s h) ≡ End
+  pub step_short : (s h n : ℕ) → s < segment_count path → seg_len path s ≡ n → hops path < h + n → next_segment path (place s h) ≡ None
   unfolding next_segment
   step_short s h n b e r = rw e (simp (lt-leb _ _ b, lt-ltb _ _ r))
 
   pub step_goes : (s h n : ℕ) → s < segment_count path → seg_len path s ≡ n → h + n ≤ hops path
-      → next_segment path (place s h) ≡ Segment s h n (place (s + 1) (h + n))
+      → next_segment path (place s h) ≡ Some (record { info_idx = s; first_hop = h; hop_count = n })
   unfolding next_segment
   step_goes s h n b e r = rw e (simp (lt-leb _ _ b, le-ltb _ _ r))
 
@@ -91,6 +90,28 @@ module _ (path : List ℕ) where
   unfolding segment_count segments
   count_at_most = from_at_most 0 0 (lengths path)
 
+-- a segment stands at its place, and its hops are among the header's
+pub record Placed (path : List ℕ) (place : SegmentPlace) (segment : Segment) : Type 0 where
+  pub info : segment.info_idx ≡ place.seg_idx
+  pub first : segment.first_hop ≡ place.hop_idx
+  pub counted : segment.info_idx < segment_count path
+  pub within : segment.first_hop + segment.hop_count ≤ hops path
+
+pub placed : (path : List ℕ) (place : SegmentPlace) {segment : Segment} → next_segment path place ≡ Some segment → Placed path place segment
+unfolding next_segment
+placed path place {segment} = go (leb (segment_count path) place.seg_idx) (ltb (hops path) (place.hop_idx + seg_len path place.seg_idx)) refl refl
+  where
+    go : (b d : Bool) → leb (segment_count path) place.seg_idx ≡ b → ltb (hops path) (place.hop_idx + seg_len path place.seg_idx) ≡ d
+        → next_segment path place ≡ Some segment → Placed path place segment
+    go true d p q e = let f = rw p at e in let z : ◌≡◌ {A = ℕ} 0 1 = cc in absurd (omega arith)
+    go false true p q e = let f = rw (p, q) at e in let z : ◌≡◌ {A = ℕ} 0 1 = cc in absurd (omega arith)
+    go false false p q e =
+        let f = rw (p, q) at e in
+        let i : segment.info_idx ≡ place.seg_idx = cc in
+        let h : segment.first_hop ≡ place.hop_idx = cc in
+        let n : segment.hop_count ≡ seg_len path place.seg_idx = cc in
+        record { info = i; first = h; counted = rw i (leb-false _ _ p); within = rw (h, n) (ltb-false _ _ q) }
+
 module _ (lent : Bor (List ℕ)) where
   abbrev path : List ℕ
   path = lent.now
@@ -109,7 +130,7 @@ module _ (lent : Bor (List ℕ)) where
       let here : seg_len path s ≡ n = ap (seg_len path) (omega arith) ∙ o.at 0 in
       let step = step_goes path s h n (omega (arith, counted)) here (omega (arith, o.sum)) in
       let behind : advanced (iterator s h) ≡ iterator (s + 1) (h + n) =
-      ap (λ (to : SegmentStep). record { path = lent; place = place_after (place path s h) to }) step in
+      ap (λ (to : Option Segment). record { path = lent; place = place_after (place path s h) to }) step in
       rw e (goes step (subst (λ (at : SegmentIterator). Walk at (segments_from (s + 1) (h + n) left)) (sym behind) (again (onward_more path e o))))
 
   walk_from : (left : List ℕ) (s h : ℕ) → Onward path s h left → Walk (iterator s h) (segments_from s h left)
@@ -121,3 +142,35 @@ module _ (lent : Bor (List ℕ)) where
   walk_segments =
       walk_from (lengths path) 0 0
       (record { counted = omega arith; at = λ k. let e : 0 + k ≡ k = omega arith in rw e; sum = omega arith })
+
+-- ---- what is left to an iterator
+
+module _ (at : SegmentIterator) where
+  -- nothing, where a step gives nothing
+  pub rest_none : step_of at ≡ None → rest at ≡ []
+  unfolding rest
+  rest_none e = go (segment_count at.path.now - at.place.seg_idx)
+    where
+      go : (n : ℕ) → steps_within n at ≡ []
+      go zero = refl
+      go (suc n) = rw e
+
+  -- else the segment that a step gives, and what is left behind it
+  pub rest_some : {segment : Segment} → step_of at ≡ Some segment
+      → rest at ≡ segment ∷ rest (record { path = at.path; place = behind segment })
+  unfolding rest
+  rest_some {segment} e =
+      let place = placed at.path.now at.place e in
+      let n : segment_count at.path.now - at.place.seg_idx ≡ suc (segment_count at.path.now - (segment.info_idx + 1)) = omega arith in
+      rw (n, e)
+
+-- all segments are left to one that starts
+pub walk_rest : (at : SegmentIterator) {all : List Segment} → Walk at all → rest at ≡ all
+walk_rest at (ends e) = rest_none at e
+walk_rest at (goes {segment = segment} e w) =
+    let on : advanced at ≡ record { path = at.path; place = behind segment } =
+    ap (λ (step : Option Segment). record { path = at.path; place = place_after at.place step }) e in
+    rest_some at e ∙ ap (λ (more : List Segment). segment ∷ more) (ap rest (sym on) ∙ walk_rest (advanced at) w)
+
+pub rest_started : (lent : Bor (List ℕ)) → rest (started lent) ≡ segments lent.now
+rest_started lent = walk_rest (started lent) (walk_segments lent)

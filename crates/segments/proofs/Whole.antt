@@ -3,23 +3,20 @@
 use mathlib.Core.Path.{◌≡◌, refl}
 use mathlib.Core.Bool.{Bool, true, false}
 use mathlib.Core.List.{List, [], ◌∷◌}
-use Prim.Native.Nat.{ℕ, ◌+◌, ◌*◌, ◌≤◌, ◌<◌, min}
+use Prim.Native.Nat.{ℕ, ◌+◌, ◌*◌, ◌≤◌, min}
 use native.Mathlib.Omega.{arith}
-use borrow.Author.Tests.{leb-false, ltb-false, eqb-false}
-use lib.Dec.{eqb, ltb, leb}
+use borrow.Author.Tests.{eqb-false}
+use lib.Dec.{eqb}
 use lib.ListN.{length, drop, length-drop}
 use lib.Seq.{length-take-le}
+use Rattle.std.specs.Prelude.{Some}
 use Rattle.fields.specs.Layout.{info_offset, hop_offset}
-use Rattle.standard_path.specs.Header.{infos, hops, header_size, info_field}
-use Rattle.segments.specs.Segments.{segments_from, lengths, segments, segment_count, hop_fields, seg_len, next_segment, step_of}
+use Rattle.standard_path.specs.Header.{infos, header_size, info_field}
+use Rattle.segments.specs.Segments.{segments_from, lengths, segments, segment_count, hop_fields, step_of}
+use Rattle.segments.proofs.Walk.{Placed, placed}
 use Rattle.segments.specs.declared.SegmentIterator.{SegmentIterator}
 use Rattle.segments.specs.declared.SegmentPlace.{SegmentPlace}
-use Rattle.segments.specs.declared.SegmentStep.TheVariants.{Segment}
-
--- a segment has an info field, and its hops are among the header's
-record Inside (path : List ℕ) (info first count : ℕ) : Type 0 where
-  counted : info < segment_count path
-  within : first + count ≤ hops path
+use Rattle.segments.specs.declared.Segment.{Segment}
 
 -- the parts of a segment, each with its size
 pub record Full (path : List ℕ) (info first count : ℕ) : Type 0 where
@@ -27,19 +24,6 @@ pub record Full (path : List ℕ) (info first count : ℕ) : Type 0 where
   pub hops_size : length (hop_fields path first count) ≡ 12 * count
 
 module _ (path : List ℕ) where
-  inside_by : (at : SegmentPlace) {behind : SegmentPlace} {info first count : ℕ} (b d : Bool) → leb (segment_count path) at.seg_idx ≡ b
-      → ltb (hops path) (at.hop_idx + seg_len path at.seg_idx) ≡ d → next_segment path at ≡ Segment info first count behind
-      → Inside path info first count
-  unfolding next_segment
-  inside_by at true d p q e = let f = rw p at e in let z : ◌≡◌ {A = ℕ} 0 1 = cc in absurd (omega arith)
-  inside_by at false true p q e = let f = rw (p, q) at e in let z : ◌≡◌ {A = ℕ} 0 1 = cc in absurd (omega arith)
-  inside_by at {behind} {info} {first} {count} false false p q e =
-      let f = rw (p, q) at e in
-      let i : info ≡ at.seg_idx = cc in
-      let h : first ≡ at.hop_idx = cc in
-      let n : count ≡ seg_len path at.seg_idx = cc in
-      record { counted = rw i (leb-false _ _ p); within = rw (h, n) (ltb-false _ _ q) }
-
   abbrev nonzeros : List ℕ → ℕ
   nonzeros [] = 0
   nonzeros (n ∷ left) = min n 1 + nonzeros left
@@ -57,9 +41,13 @@ module _ (path : List ℕ) where
   unfolding segment_count segments infos
   count_few = omega (arith, from_few 0 0 (lengths path))
 
-  full : {info first count : ℕ} → header_size path ≤ length path → Inside path info first count → Full path info first count
+  full : {place : SegmentPlace} {segment : Segment} → header_size path ≤ length path → Placed path place segment
+      → Full path segment.info_idx segment.first_hop segment.hop_count
   unfolding header_size info_field hop_fields
-  full {info} {first} {count} whole i =
+  full {segment = segment} whole i =
+      let info = segment.info_idx in
+      let first = segment.first_hop in
+      let count = segment.hop_count in
       let info-left = length-drop (info_offset info) path in
       let hops-left = length-drop (hop_offset (infos path) first) path in
       record {
@@ -68,7 +56,6 @@ module _ (path : List ℕ) where
             length-take-le (12 * count) (drop (hop_offset (infos path) first) path) (omega (arith, hops-left, whole, i.within));
       }
 
-pub segment_full : (at : SegmentIterator) {behind : SegmentPlace} {info first count : ℕ}
-    → header_size at.path.now ≤ length at.path.now → step_of at ≡ Segment info first count behind
-    → Full at.path.now info first count
-segment_full at whole e = full at.path.now whole (inside_by at.path.now at.place _ _ refl refl e)
+pub segment_full : (at : SegmentIterator) {segment : Segment} → header_size at.path.now ≤ length at.path.now → step_of at ≡ Some segment
+    → Full at.path.now segment.info_idx segment.first_hop segment.hop_count
+segment_full at whole e = full at.path.now whole (placed at.path.now at.place e)

@@ -7,9 +7,9 @@
 // Licensed under the Apache License, Version 2.0: see NOTICE.
 #![tactic(auto)]
 
-ghost use Rattle.std.specs.Prelude.{◌≡◌, eqb};
-ghost use Rattle.segments.specs.Segments.{segment_count, seg_len, hop_fields, next_segment, place_after, is_end};
-ghost use Rattle.segments.specs.Segments.{started, step_of, advanced};
+ghost use Rattle.std.specs.Prelude.{◌≡◌, ◌+◌, ◌<◌, eqb, IfSome, ⊤};
+ghost use Rattle.std.specs.Iterator.{YieldsFirst, item_count, MakesProgress};
+ghost use Rattle.segments.specs.Segments.{segment_count, seg_len, hop_fields, next_segment, started, step_of, advanced, rest};
 
 use fields::layout::HopFieldLayout;
 use standard_path::view;
@@ -37,33 +37,42 @@ pub fn is_empty(path: &[u8]) -> bool
     segment_count(path) == 0
 }
 
+#[tactic(auto, unfolding(crate::specs::Segments::seg_len))]
 fn seg_len(path: &[u8], index: u8) -> u8
     ensures { result ≡ seg_len path.now index }
 {
-    match index {
-        0 => view::seg0_len(path),
-        1 => view::seg1_len(path),
-        2 => view::seg2_len(path),
-        _ => 0,
-    }
-}
-
-// ---- a segment's parts: `view::info_field`, and its hop fields
-
-// The hop fields from an index on, as one part of the path.
-pub fn hop_fields(path: &[u8], first_hop: u8, hop_count: u8) -> &[u8]
-    ensures { result.now ≡ hop_fields path.now first_hop hop_count }
-{
-    let at = HopFieldLayout::offset(view::info_field_count(path), first_hop);
-    let end = at + HopFieldLayout::SIZE_BYTES * (hop_count as usize);
-    if end <= path.len() {
-        &path[at..end]
-    } else {
-        view::rest(path, at)
-    }
+    let lengths = [
+        view::seg0_len(path),
+        view::seg1_len(path),
+        view::seg2_len(path),
+    ];
+    lengths.get(index as usize).copied().unwrap_or(0)
 }
 
 // ---- a step along the segments
+
+// A segment by its numbers: its info field, its first hop field, and how many hop fields it has.
+#[derive(Clone, Copy)]
+pub struct Segment {
+    pub info_idx: u8,
+    pub first_hop: u8,
+    pub hop_count: u8,
+}
+
+impl Segment {
+    // Its hop fields, as one part of the path.
+    pub fn hop_fields(self, path: &[u8]) -> &[u8]
+        ensures { result.now ≡ hop_fields path.now self.first_hop self.hop_count }
+    {
+        let at = HopFieldLayout::offset(view::info_field_count(path), self.first_hop);
+        let end = at + HopFieldLayout::SIZE_BYTES * (self.hop_count as usize);
+        if end <= path.len() {
+            &path[at..end]
+        } else {
+            view::rest(path, at)
+        }
+    }
+}
 
 // The next segment, and its first hop.
 #[derive(Clone, Copy)]
@@ -72,59 +81,25 @@ pub struct SegmentPlace {
     pub hop_idx: u8,
 }
 
-#[derive(Clone, Copy)]
-pub enum SegmentStep {
-    Segment {
-        info_idx: u8,
-        first_hop: u8,
-        hop_count: u8,
-        next: SegmentPlace,
-    },
-    End,
-}
-
-// The segment at a place. A place whose hops are not all there, which no walk from the first place meets, is an end too.
-pub fn next_segment(path: &[u8], place: SegmentPlace) -> SegmentStep
-    ensures { result ≡ next_segment path.now place }
+// The segment at a place. At a place whose hops are not all there, which no walk from the first place meets, there is none.
+pub fn next_segment(path: &[u8], place: SegmentPlace) -> Option<Segment>
+    ensures segment { result ≡ next_segment path.now place }
+    ensures fits { IfSome result (λ s. (s.info_idx < 3) × (s.first_hop + s.hop_count < 256)) }
 {
     let segment = place.seg_idx;
     let first = place.hop_idx;
     if segment_count(path) <= segment {
-        return SegmentStep::End;
+        return None;
     }
     let count = seg_len(path, segment);
-    let behind = (first as u16) + (count as u16);
-    if (view::hop_field_count(path) as u16) < behind {
-        return SegmentStep::End;
+    if (view::hop_field_count(path) as u16) < (first as u16) + (count as u16) {
+        return None;
     }
-    SegmentStep::Segment {
+    Some(Segment {
         info_idx: segment,
         first_hop: first,
         hop_count: count,
-        next: SegmentPlace {
-            seg_idx: segment + 1,
-            hop_idx: behind as u8,
-        },
-    }
-}
-
-// The place behind a step; an end leaves it.
-pub fn place_after(place: SegmentPlace, step: SegmentStep) -> SegmentPlace
-    ensures { result ≡ place_after place step }
-{
-    match step {
-        SegmentStep::Segment { next, .. } => next,
-        SegmentStep::End => place,
-    }
-}
-
-pub fn is_end(step: SegmentStep) -> bool
-    ensures { result ≡ is_end step }
-{
-    match step {
-        SegmentStep::Segment { .. } => false,
-        SegmentStep::End => true,
-    }
+    })
 }
 
 // ---- the iterator
@@ -148,13 +123,25 @@ impl<'a> SegmentIterator<'a> {
             },
         }
     }
+}
 
-    pub fn next(&mut self) -> SegmentStep
-        ensures { (result ≡ step_of self.old) × (self.new ≡ advanced self.old) }
+impl<'a> Iterator for SegmentIterator<'a> {
+    type Item = Segment;
+
+    ghost next_gives = { YieldsFirst rest };
+
+    ghost remaining = { item_count rest };
+
+    fn next(&mut self) -> Option<Segment>
+        ensures step { (result ≡ step_of self.old) × (self.new ≡ advanced self.old) }
+        ensures steps { YieldsFirst rest self.old result self.new }
+        ensures goes { MakesProgress (λ _. ⊤) (item_count rest) self.old result self.new }
     {
-        let place = self.place;
-        let step = next_segment(self.path, place);
-        self.place = place_after(place, step);
-        step
+        let segment = next_segment(self.path, self.place)?;
+        self.place = SegmentPlace {
+            seg_idx: segment.info_idx + 1,
+            hop_idx: segment.first_hop + segment.hop_count,
+        };
+        Some(segment)
     }
 }

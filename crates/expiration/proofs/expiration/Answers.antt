@@ -1,15 +1,14 @@
 use mathlib.Core.Path.{sym, ap, ◌∙◌}
-use Rattle.expiration.specs.declared.PathExpiration.TheVariants.{At}
+use Rattle.std.proofs.Common.{rules, Ok}
 use Rattle.expiration.proofs.Expiry.{expiration_asked}
 use Rattle.expiration.proofs.expiration.Goals as goal
 
-pub returns-in-Complete : goal.returns-in-Complete
-returns-in-Complete c =
-    rw (
-      expiration_asked c.args.path.now,
-      sym c.check_header.ensures ∙ c.in-Complete.is,
-    ) (ap At c.path_expiry.ensures)
+pub returns-in_err-check_header : goal.returns-in_err-check_header
+returns-in_err-check_header c =
+    let path = c.args.path.now in
+    rw (expiration_asked path, sym c.check_header.ensures ∙ c.in_err-check_header.was) (search rules)
 
-pub returns-in-Failed : goal.returns-in-Failed
-returns-in-Failed c =
-    rw (expiration_asked c.args.path.now, sym c.check_header.ensures ∙ c.in-Failed.is)
+pub returns : goal.returns
+returns c =
+    let path = c.args.path.now in
+    rw (expiration_asked path, sym c.check_header.ensures ∙ c.in_ok-check_header.was) (ap Ok c.path_expiry.ensures)

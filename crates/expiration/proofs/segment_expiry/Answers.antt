@@ -1,37 +1,32 @@
-use mathlib.Core.Path.{refl, ap, ◌∙◌}
-use Prim.Native.Nat.{◌<◌, min}
+use mathlib.Core.Path.{◌≡◌, sym, refl, ap, ◌∙◌}
+use Prim.Native.Nat.{ℕ, ◌+◌, ◌*◌}
 use native.Mathlib.Omega.{arith}
-use Rattle.fields.specs.Fields.{exp_time, expiry}
+use lib.ListN.{get_or}
+use Rattle.std.proofs.Common.{rules}
+use Rattle.std.proofs.lemmas.Iterator.{YieldsList-from_map, YieldsList-from_range}
+use Rattle.std.proofs.lemmas.Iterator.Adapters.{option_map_id}
+use Rattle.std.proofs.lemmas.Iterator.Consumers.{min_from_yields_List}
+use Rattle.std.specs.Option.{option_map_or}
+use Rattle.fields.specs.Fields.{expiry}
 use Rattle.expiration.specs.Expiration.{hop_expiry, segment_expiry}
-use Rattle.expiration.proofs.Expiry.{left_more, left_none, times_all, times_more, times_none, hop_time, expiry_least}
+use Rattle.expiration.specs.Expiration.{least as least_of}
+use Rattle.expiration.proofs.Expiry.{least_units, times_same, hop_time}
 use Rattle.expiration.proofs.segment_expiry.Goals as goal
-
-pub returns-then-hop_count-eq0 : goal.returns-then-hop_count-eq0
-unfolding segment_expiry
-returns-then-hop_count-eq0 c = rw c.if-hop_count-eq0.true
-
-pub loop-index-init : goal.loop-index-init
-unfolding exp_time expiry
-loop-index-init c =
-    let a = c.args in
-    let f = hop_expiry a.path.now a.info_idx in
-    let within : 0 < a.hop_count = omega (arith, c.if-hop_count-eq0.false) in
-    let time =
-    hop_time a.path.now a.info_idx a.first_hop a.hop_count 0 within c.info_field.ensures
-    c.timestamp-start.ensures c.hop_fields-hops.ensures c.exp_time-units.ensures in
-    let left = rw (times_more f a.first_hop 0 a.hop_count within) at (times_all f a.first_hop 0 a.hop_count refl) in
-    left_more (omega (arith, time)) left
-
-pub loop-index-preserved : goal.loop-index-preserved
-loop-index-preserved c =
-    let a = c.args in
-    let within = c.loop-index-test.true in
-    let time =
-    hop_time a.path.now a.info_idx a.first_hop a.hop_count _ within c.info_field.ensures
-    c.timestamp-start.ensures c.hop_fields-hops.ensures c.byte_at.ensures in
-    let left = rw (times_more _ _ _ _ within) at c.loop-index.invariant in
-    left_more (ap (expiry _) c.lesser_units-units.ensures ∙ expiry_least _ _ _ ∙ ap (min _) time) left
 
 pub returns : goal.returns
 unfolding segment_expiry
-returns c = c.expiry.ensures ∙ left_none (rw (times_none _ _ _ _ c.loop-index-test.false) at c.loop-index.invariant)
+returns c =
+    let path = c.args.path.now in
+    let segment = c.args.segment in
+    let hops = c.hop_fields-hops.result.now in
+    let start = c.timestamp-start.result in
+    let units : ℕ → ℕ = λ i. get_or hops (12 * i + 1) 0 in
+    let least =
+    sym (option_map_id _)
+    ∙ min_from_yields_List _ _ c.min-least.ensures.ran
+    (YieldsList-from_map _ units (YieldsList-from_range 0 _ segment.hop_count c.map.ensures.source (omega arith)) c.map.ensures.closure (λ x r q k. search rules)) in
+    let found : c.map_or.result ≡ option_map_or (expiry start) c.min-least.result 4294967295 = search rules in
+    let first : segment.first_hop + 0 ≡ segment.first_hop = omega arith in
+    let same = times_same (expiry start) units (hop_expiry path segment.info_idx) segment.first_hop segment.hop_count 0 segment.hop_count (omega arith)
+    (λ i within. hop_time path segment.info_idx segment.first_hop segment.hop_count i within c.info_field.ensures c.timestamp-start.ensures c.hop_fields-hops.ensures refl) in
+    found ∙ ap (λ o. option_map_or (expiry start) o 4294967295) least ∙ least_units start _ ∙ ap least_of (rw first at same)
