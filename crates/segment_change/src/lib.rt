@@ -10,77 +10,70 @@ ghost use Rattle.std.specs.Prelude.{◌≡◌};
 ghost use Rattle.answers.specs.Questions.{first_no};
 ghost use Rattle.validator.specs.Check.{link_questions, change_questions};
 
-use answers::{StandardRoutingError, Validation};
-use interface_table::Listed;
+use answers::StandardRoutingError;
+use interface_table::InterfaceTable;
 
 // Questions 14 to 16 of what the table has for the two interfaces.
+#[tactic(auto, unfolding(questions::specs::Questions::asks))]
 fn validate_links(
-    listed_in: Listed,
-    listed_out: Listed,
+    listed_in: Option<u8>,
+    listed_out: Option<u8>,
     hop_index: u8,
     hop: &[u8],
     info: &[u8],
     next_hop: &[u8],
     next_info: &[u8],
-) -> Validation
+) -> Result<(), StandardRoutingError>
     ensures { result ≡ first_no (link_questions listed_in listed_out hop_index
         hop.now info.now next_hop.now next_info.now) }
 {
-    let Listed::State(in_state) = listed_in else {
-        return Validation::Invalid(StandardRoutingError::UnknownIngressInterface {
-            hop_index,
-            if_id: fields::ingress_interface(hop, info),
-            cons_dir: fields::cons_dir(info),
-        });
-    };
-    let Listed::State(out_state) = listed_out else {
-        return Validation::Invalid(StandardRoutingError::UnknownEgressInterface {
-            hop_index,
-            if_id: fields::egress_interface(next_hop, next_info),
-            cons_dir: fields::cons_dir(next_info),
-        });
-    };
+    let in_state = listed_in.ok_or(StandardRoutingError::UnknownIngressInterface {
+        hop_index,
+        if_id: fields::ingress_interface(hop, info),
+        cons_dir: fields::cons_dir(info),
+    })?;
+    let out_state = listed_out.ok_or(StandardRoutingError::UnknownEgressInterface {
+        hop_index,
+        if_id: fields::egress_interface(next_hop, next_info),
+        cons_dir: fields::cons_dir(next_info),
+    })?;
     let in_link = interface_table::link_type(in_state);
     let out_link = interface_table::link_type(out_state);
-    if interface_table::is_allowed_pair(in_link, out_link) {
-        return Validation::Valid;
+    if !interface_table::is_allowed_pair(in_link, out_link) {
+        return Err(StandardRoutingError::InvalidSegmentChange { hop_index });
     }
-    Validation::Invalid(StandardRoutingError::InvalidSegmentChange { hop_index })
+    Ok(())
 }
 
 // Questions 13 to 16.
+#[tactic(auto, unfolding(questions::specs::Questions::asks))]
 pub fn validate_segment_change(
-    ids: &[u16],
-    states: &[u8],
+    interfaces: InterfaceTable<'_>,
     hop_index: u8,
     hop: &[u8],
     info: &[u8],
     next_hop: &[u8],
     next_info: &[u8],
-) -> Validation
-    ensures { result ≡ first_no (change_questions ids.now states.now hop_index
+) -> Result<(), StandardRoutingError>
+    ensures { result ≡ first_no (change_questions interfaces.entry.ids.now interfaces.entry.states.now hop_index
         hop.now info.now next_hop.now next_info.now) }
 {
     if fields::egress_scmp_alert(hop, info) {
         let cons_dir = fields::cons_dir(info);
-        return Validation::Invalid(StandardRoutingError::InvalidScmpAlert {
+        return Err(StandardRoutingError::InvalidScmpAlert {
             hop_index,
             cons_dir,
         });
     }
     if fields::ingress_scmp_alert(next_hop, next_info) {
         let cons_dir = fields::cons_dir(next_info);
-        return Validation::Invalid(StandardRoutingError::InvalidScmpAlert {
+        return Err(StandardRoutingError::InvalidScmpAlert {
             hop_index,
             cons_dir,
         });
     }
-    let listed_in = interface_table::lookup(ids, states, fields::ingress_interface(hop, info));
-    let listed_out = interface_table::lookup(
-        ids,
-        states,
-        fields::egress_interface(next_hop, next_info),
-    );
+    let listed_in = interfaces.lookup(fields::ingress_interface(hop, info));
+    let listed_out = interfaces.lookup(fields::egress_interface(next_hop, next_info));
     validate_links(
         listed_in, listed_out, hop_index, hop, info, next_hop, next_info,
     )
