@@ -9,13 +9,35 @@
 
 ghost use Rattle.std.specs.Prelude.{◌≡◌, not, cond};
 ghost use Rattle.hop_mac.specs.Mac.{mac_beta_step};
-ghost use Rattle.fields.specs.Fields.{seg_id, mac_field};
+ghost use Rattle.fields.specs.Fields.{cons_dir, seg_id, mac_field};
+ghost use Rattle.standard_path.specs.Meta.{curr_hf};
+ghost use Rattle.place.specs.Place.{info};
+ghost use Rattle.writes.specs.Writes.{flags_at};
 ghost use Rattle.moves.specs.Moves.{takes_step, ingress_seg_id};
 ghost use Rattle.moves.specs.Inner.{stepped_at, fields_at, ingress_move_at, indices_at, egress_move_at};
 
 use edition::Edition;
 use hop_mac::mac_beta_step;
 use standard_path::view;
+
+// What a move needs of the header: where the current hop field starts, and the direction of its segment.
+#[derive(Clone, Copy)]
+pub struct CurrentHop {
+    pub at: usize,
+    pub cons_dir: bool,
+}
+
+impl CurrentHop {
+    pub fn of(path: &[u8]) -> CurrentHop
+        ensures at { result.at ≡ flags_at path.now (curr_hf path.now) }
+        ensures cons_dir { result.cons_dir ≡ cons_dir (info path.now) }
+    {
+        CurrentHop {
+            at: view::hop_field_offset(path, view::curr_hop_field_idx(path)),
+            cons_dir: fields::cons_dir(view::curr_info_field(path)),
+        }
+    }
+}
 
 // ---- the beta step
 
@@ -51,6 +73,7 @@ pub fn ingress_segment_id(edition: Edition, path: &[u8], interface: u16) -> u16
 }
 
 // The beta step of the current hop, if it takes one.
+#[tactic(auto, unfolding(crate::specs::Inner::stepped_at))]
 fn beta_step(path: &mut [u8], hop_at: usize, taken: bool)
     ensures { path.new ≡ stepped_at path.old hop_at taken }
 {
@@ -64,30 +87,31 @@ fn beta_step(path: &mut [u8], hop_at: usize, taken: bool)
 
 // ---- the moves
 
-fn move_fields(edition: Edition, path: &mut [u8], interface: u16, hop_at: usize, cons_dir: bool)
-    ensures { path.new ≡ fields_at edition path.old interface hop_at cons_dir }
+#[tactic(auto, unfolding(crate::specs::Inner::fields_at))]
+fn move_fields(edition: Edition, path: &mut [u8], interface: u16, current: CurrentHop)
+    ensures { path.new ≡ fields_at edition path.old interface current.at current.cons_dir }
 {
     if interface == 0 {
         return;
     }
-    let taken = takes_step(edition, path, true, cons_dir);
-    beta_step(path, hop_at, taken);
-    writes::clear_ingress_alert(path, hop_at, cons_dir);
+    let taken = takes_step(edition, path, true, current.cons_dir);
+    beta_step(path, current.at, taken);
+    writes::clear_ingress_alert(path, current.at, current.cons_dir);
 }
 
+#[tactic(auto, unfolding(crate::specs::Inner::ingress_move_at))]
 pub fn move_ingress(
     edition: Edition,
     path: &mut [u8],
     interface: u16,
     change: bool,
-    hop_at: usize,
-    cons_dir: bool,
+    current: CurrentHop,
 )
-    ensures { path.new ≡ ingress_move_at edition path.old interface change hop_at cons_dir }
+    ensures { path.new ≡ ingress_move_at edition path.old interface change current.at current.cons_dir }
 {
     let next_hop = view::curr_hop_field_idx(path) + 1;
     let next_segment = view::curr_info_field_idx(path) + 1;
-    move_fields(edition, path, interface, hop_at, cons_dir);
+    move_fields(edition, path, interface, current);
     if change {
         view::set_curr_hop_field(path, next_hop);
         view::set_curr_info_field(path, next_segment);
@@ -95,6 +119,7 @@ pub fn move_ingress(
 }
 
 // CurrHF, and CurrINF where the path crosses into the next segment.
+#[tactic(auto, unfolding(crate::specs::Inner::indices_at))]
 fn set_indices(path: &mut [u8], hop_index: u8, segment: u8, crossing: bool)
     ensures { path.new ≡ indices_at path.old hop_index segment crossing }
 {
@@ -104,14 +129,15 @@ fn set_indices(path: &mut [u8], hop_index: u8, segment: u8, crossing: bool)
     }
 }
 
-pub fn move_egress(edition: Edition, path: &mut [u8], hop_at: usize, cons_dir: bool)
-    ensures { path.new ≡ egress_move_at edition path.old hop_at cons_dir }
+#[tactic(auto, unfolding(crate::specs::Inner::egress_move_at))]
+pub fn move_egress(edition: Edition, path: &mut [u8], current: CurrentHop)
+    ensures { path.new ≡ egress_move_at edition path.old current.at current.cons_dir }
 {
     let hop_index = view::curr_hop_field_idx(path);
     let segment = view::curr_info_field_idx(path);
     let crossing = place::crosses(edition, path);
-    let taken = takes_step(edition, path, false, cons_dir);
-    beta_step(path, hop_at, taken);
-    writes::clear_egress_alert(path, hop_at, cons_dir);
+    let taken = takes_step(edition, path, false, current.cons_dir);
+    beta_step(path, current.at, taken);
+    writes::clear_egress_alert(path, current.at, current.cons_dir);
     set_indices(path, hop_index + 1, segment + 1, crossing);
 }
