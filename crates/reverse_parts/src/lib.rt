@@ -63,12 +63,10 @@ pub fn swap_lengths(path: &mut [u8])
 fn toggle_cons_dirs(path: &mut [u8], infos: u8)
     ensures { path.new ≡ toggle_cons_dirs infos path.old }
 {
-    let mut index: u8 = 0;
-    while index < infos {
+    for index in 0..infos {
         let at = InfoFieldLayout::offset(index) + InfoFieldLayout::FLAGS as usize;
         let flags = octets::byte_at(path, at);
         octets::put_byte(path, at, flags / 2 * 2 + (1 - flags % 2));
-        index += 1;
     }
 }
 
@@ -77,13 +75,8 @@ fn swap_fields(path: &mut [u8], low: usize, high: usize, size: usize)
     requires { (low + size ≤ high) × (high + size ≤ length path.old) }
     ensures { path.new ≡ swap_fields size low high path.old }
 {
-    let mut i: usize = 0;
-    while i < size {
-        let byte = path[low + i];
-        path[low + i] = path[high + i];
-        path[high + i] = byte;
-        i += 1;
-    }
+    let (front, back) = path.split_at_mut(high);
+    front[low..low + size].swap_with_slice(&mut back[..size]);
 }
 
 // Reverses the order of `count` fields, from both ends.
@@ -91,14 +84,10 @@ fn reverse_fields(path: &mut [u8], at: usize, size: usize, count: u8)
     requires { at + size * count ≤ length path.old }
     ensures { path.new ≡ reverse_fields at size count path.old }
 {
-    let mut low = at;
-    let mut high = at + size * (count as usize);
-    let mut left = count;
-    while 1 < left {
-        high -= size;
+    for index in 0..count / 2 {
+        let low = at + size * (index as usize);
+        let high = at + size * ((count - 1 - index) as usize);
         swap_fields(path, low, high, size);
-        low += size;
-        left -= 2;
     }
 }
 

@@ -1,25 +1,13 @@
-use Prim.Native.Nat.{◌-◌}
-use mathlib.Core.Path.{◌≡◌, refl, ◌∙◌}
+use Prim.Native.Nat.{◌+◌, ◌-◌}
+use mathlib.Core.Path.{◌≡◌}
 use native.Mathlib.Omega.{arith}
-use native.Mathlib.Nat.{add-zero, sub-zero}
-use lib.ListN.{length-set}
 use Rattle.reverse_parts.specs.Inner.{swap_fields}
-use Rattle.reverse_parts.proofs.FieldSwap.{swap_more}
 use Rattle.reverse_parts.proofs.swap_fields.Goals as goal
-
-pub loop-i-init : goal.loop-i-init
-loop-i-init c = (omega arith, (refl, simp (sub-zero, add-zero)))
-
-pub bounds-path-high-in-loop-i : goal.bounds-path-high-in-loop-i
-bounds-path-high-in-loop-i c = simp length-set (omega arith)
-
-pub loop-i-preserved : goal.loop-i-preserved
-loop-i-preserved c =
-    let inv = c.loop-i.invariant in
-    (omega arith, (simp length-set inv.1.0, swap_more _ _ _ _ _ c.loop-i-test.true ∙ inv.1.1))
 
 pub returns : goal.returns
 unfolding swap_fields
 returns c =
-    let e : c.args.size - c.loop-i.i ≡ 0 = omega arith in
-    rw e at c.loop-i.invariant.1.1
+    let s = c.split_at_mut-front.ensures in
+    let w = c.swap_with_slice.ensures in
+    let n : c.args.low + c.args.size - c.args.low ≡ c.args.size = omega arith in
+    rw (w.after, w.other_after, s.front, s.back, n)
