@@ -7,7 +7,7 @@ use native.Mathlib.Nat.{mul-zero, mul-suc, mul-le-mul_left, not-suc-le-zero, le_
 use native.Mathlib.Omega.{arith}
 use lib.ListN.{length, take, drop, length-append, length-drop}
 use lib.Seq.{take_at, drop_at, take-append-le, drop-append-le, drop-drop, length-take-le, take-take}
-use borrow.Author.Tests.{le-leb, lt-leb}
+use borrow.Author.Tests.{le-leb}
 use Rattle.fields.specs.Layout.{hop_offset}
 use Rattle.reverse_parts.specs.Parts.{last_first, reverse_fields, reverse_parts}
 use Rattle.reverse_parts.specs.Inner.{reverse_parts_there}
@@ -114,7 +114,3 @@ module _ (size : ℕ) where
 pub parts_there : (n m : ℕ) (path : List ℕ) → hop_offset n m ≤ length path → reverse_parts_there n m path ≡ reverse_parts n m path
 unfolding reverse_parts_there
 parts_there n m path h = simp (le-leb _ _ h)
-
-pub parts_short : (n m : ℕ) (path : List ℕ) → length path < hop_offset n m → reverse_parts_there n m path ≡ path
-unfolding reverse_parts_there
-parts_short n m path h = simp (lt-leb _ _ h)

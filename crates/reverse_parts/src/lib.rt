@@ -15,6 +15,7 @@ use standard_path::view;
 
 // ---- the lengths
 
+#[tactic(auto, unfolding(crate::specs::Parts::set_lengths))]
 fn set_lengths(path: &mut [u8], seg0: u8, seg1: u8, seg2: u8)
     requires { (seg0 < 64) × ((seg1 < 64) × (seg2 < 64)) }
     ensures { path.new ≡ set_lengths path.old seg0 seg1 seg2 }
@@ -41,6 +42,7 @@ fn set_lengths(path: &mut [u8], seg0: u8, seg1: u8, seg2: u8)
 }
 
 // The used lengths end for end.
+#[tactic(auto, unfolding(crate::specs::Parts::swap_lengths))]
 pub fn swap_lengths(path: &mut [u8])
     ensures { path.new ≡ swap_lengths path.old }
 {
@@ -60,6 +62,7 @@ pub fn swap_lengths(path: &mut [u8])
 // ---- the fields
 
 // Turns C over, the lowest of the flags, in each info field.
+#[tactic(auto, unfolding(crate::specs::Parts::toggle_cons_dirs, crate::specs::Parts::toggle_cons_dir))]
 fn toggle_cons_dirs(path: &mut [u8], infos: u8)
     ensures { path.new ≡ toggle_cons_dirs infos path.old }
 {
@@ -71,6 +74,7 @@ fn toggle_cons_dirs(path: &mut [u8], infos: u8)
 }
 
 // Exchanges two fields that lie apart.
+#[tactic(auto, unfolding(crate::specs::Inner::swap_fields))]
 fn swap_fields(path: &mut [u8], low: usize, high: usize, size: usize)
     requires { (low + size ≤ high) × (high + size ≤ length path.old) }
     ensures { path.new ≡ swap_fields size low high path.old }
@@ -92,6 +96,7 @@ fn reverse_fields(path: &mut [u8], at: usize, size: usize, count: u8)
 }
 
 // All of them; nothing where they are not all there.
+#[tactic(auto, unfolding(crate::specs::Inner::reverse_parts_there, crate::specs::Parts::reverse_parts))]
 pub fn reverse_parts(path: &mut [u8], infos: u8, hops: u8)
     ensures { path.new ≡ reverse_parts_there infos hops path.old }
 {
