@@ -3,9 +3,9 @@
 use mathlib.Core.Path.{◌≡◌, refl, ◌∙◌}
 use mathlib.Core.Bool.{Bool, true, false, not, ◌&&◌, false≢true}
 use mathlib.Core.List.{List}
-use Prim.Native.Nat.{ℕ, ◌+◌, ◌≤◌, ◌<◌, min}
+use Prim.Native.Nat.{ℕ, ◌≤◌, ◌<◌}
 use native.Mathlib.Omega.{arith}
-use borrow.Author.Tests.{eqb-true, eqb-false, ltb-true, not-true}
+use borrow.Author.Tests.{eqb-true, ltb-true, not-true}
 use lib.Dec.{eqb, ltb}
 use Rattle.std.specs.Prelude.{Ok, Err}
 use Rattle.questions.specs.Questions.{asks}
@@ -13,11 +13,12 @@ use Rattle.octets.proofs.Bools.{first_of, second_of}
 use Rattle.standard_path.specs.Meta.{seg0_len, seg1_len, seg2_len}
 use Rattle.fields.specs.Fields.{peering}
 use Rattle.standard_path.specs.Header.{infos, info_field}
-use Rattle.standard_path.proofs.Kept.{Kept, infos_kept}
+use Rattle.standard_path.proofs.Kept.{Kept}
 use Rattle.answers.specs.Questions.{first_no}
 use Rattle.answers.specs.declared.AdvanceError.TheVariants.{MisplacedPeering}
 use Rattle.answers.specs.declared.StandardRoutingError.TheVariants.{AdvanceFailed}
 use Rattle.answers.proofs.Asked.{first_yes, both_yes, none_asked}
+use Rattle.edition.proofs.Lengths.{SameLengths, some_of, infos_of_two, peering_form_same, placed_same, peering_same, fits_same, questions_same, peering_hop_same}
 use Rattle.edition.specs.declared.Edition.{Edition}
 use Rattle.edition.specs.declared.Edition.TheVariants.{First, Second}
 use Rattle.edition.specs.Edition.{two_segments, peering_form, peering_path, peering_hop, flagged, peering_placed, peering_fits, peering_questions}
@@ -27,9 +28,6 @@ pub record Peering (path : List ℕ) : Type 0 where
   pub seg0 : 1 ≤ seg0_len path
   pub seg1 : 1 ≤ seg1_len path
   pub seg2 : seg2_len path ≡ 0
-
-some_of : (n : ℕ) → eqb n 0 ≡ false → 1 ≤ n
-some_of n e = omega (arith, eqb-false n 0 e)
 
 pub peering_lengths : (edition : Edition) (path : List ℕ) → peering_path edition path ≡ true → Peering path
 unfolding peering_form
@@ -43,58 +41,29 @@ peering_lengths Second path e =
       seg2 = eqb-true _ _ (second_of (not (eqb (seg1_len path) 0)) _ rest);
     }
 
--- two nonzero lengths have two info fields
-two_of_three : (a b c : ℕ) → 1 ≤ a → 1 ≤ b → 1 < min a 1 + min b 1 + min c 1
-two_of_three a b c h k = omega arith
-
-pub infos_of_two : (path : List ℕ) → eqb (seg0_len path) 0 ≡ false → eqb (seg1_len path) 0 ≡ false → 1 < infos path
-unfolding infos
-infos_of_two path p q = two_of_three (seg0_len path) (seg1_len path) (seg2_len path) (some_of (seg0_len path) p) (some_of (seg1_len path) q)
+pub same_lengths : {path after : List ℕ} → Kept path after → SameLengths path after
+same_lengths kept = record { seg0 = kept.seg0; seg1 = kept.seg1; seg2 = kept.seg2 }
 
 module _ {path after : List ℕ} (kept : Kept path after)
     (flags : (i : ℕ) → i < infos path → peering (info_field after i) ≡ peering (info_field path i)) where
   pub peering_form_kept : peering_form after ≡ peering_form path
-  unfolding peering_form
-  peering_form_kept =
-      rw (kept.seg0, kept.seg1, kept.seg2)
-      (go (eqb (seg0_len path) 0) refl (eqb (seg1_len path) 0) refl (eqb (seg2_len path) 0))
-    where
-      go : (none0 : Bool) → eqb (seg0_len path) 0 ≡ none0 → (none1 : Bool) → eqb (seg1_len path) 0 ≡ none1 → (none2 : Bool)
-          → ((not none0 && (not none1 && none2)) && (peering (info_field after 0) && peering (info_field after 1)))
-          ≡ ((not none0 && (not none1 && none2)) && (peering (info_field path 0) && peering (info_field path 1)))
-      go true p none1 q none2 = refl
-      go false p true q none2 = refl
-      go false p false q false = refl
-      go false p false q true =
-          let l = infos_of_two path p q in rw (flags 0 (omega (arith, l)), flags 1 l)
-
-  flagged_kept : (i : ℕ) → flagged after i ≡ flagged path i
-  flagged_kept i = rw (infos_kept kept) (go (ltb i (infos path)) refl)
-    where
-      go : (there : Bool) → ltb i (infos path) ≡ there
-          → (there && peering (info_field after i)) ≡ (there && peering (info_field path i))
-      go true e = flags i (ltb-true _ _ e)
-      go false e = refl
+  peering_form_kept = peering_form_same (same_lengths kept) flags
 
   pub placed_kept : peering_placed after ≡ peering_placed path
-  unfolding peering_placed
-  placed_kept = rw (peering_form_kept, flagged_kept 0, flagged_kept 1, flagged_kept 2)
+  placed_kept = placed_same (same_lengths kept) flags
 
   pub peering_path_kept : (edition : Edition) → peering_path edition after ≡ peering_path edition path
-  peering_path_kept First = refl
-  peering_path_kept Second = peering_form_kept
+  peering_path_kept = peering_same (same_lengths kept) flags
 
   pub fits_kept : (edition : Edition) → peering_fits edition after ≡ peering_fits edition path
-  fits_kept First = refl
-  fits_kept Second = placed_kept
+  fits_kept = fits_same (same_lengths kept) flags
 
   pub questions_kept : (edition : Edition) → peering_questions edition after ≡ peering_questions edition path
-  questions_kept First = refl
-  questions_kept Second = rw placed_kept
+  questions_kept = questions_same (same_lengths kept) flags
 
   -- whether hop h is a peering hop
   pub peering_hop_kept : (edition : Edition) (h : ℕ) → peering_hop edition after h ≡ peering_hop edition path h
-  peering_hop_kept edition h = rw (peering_path_kept edition, kept.seg0)
+  peering_hop_kept = peering_hop_same (same_lengths kept) flags
 
 -- ---- no peering path, and 28's rule kept: nothing that the editions decide differently
 
@@ -146,5 +115,5 @@ valid_fits Second path e = first_yes _ _ _ e
 pub unfit_invalid : (edition : Edition) (path : List ℕ) → peering_fits edition path ≡ false
     → first_no (peering_questions edition path) ≡ Err (AdvanceFailed MisplacedPeering)
 unfolding asks
-unfit_invalid First path e = let z : ◌≡◌ {A = ℕ} 0 1 = cc in absurd (omega arith)
+unfit_invalid First path e = absurd cc
 unfit_invalid Second path e = rw e
