@@ -1,2 +1,1 @@
 pub mod Schedule
-pub mod Unasked

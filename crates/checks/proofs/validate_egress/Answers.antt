@@ -1,29 +1,23 @@
-use mathlib.Core.Path.{sym, ap, ◌∙◌}
+use mathlib.Core.Path.{◌≡◌, sym, ap, ◌∙◌}
+use Rattle.std.specs.Prelude.{Ok}
+use Rattle.standard_path.specs.Meta.{curr_hf}
 use Rattle.fields.specs.Fields.{seg_id}
-use Rattle.answers.proofs.Asked.{goes_on_lem, stops}
-use Rattle.validator.specs.Check.{key_mac}
+use Rattle.place.specs.Place as place
+use Rattle.answers.specs.Questions.{first_no}
+use Rattle.validator.specs.Check.{field_questions}
+use Rattle.answers.proofs.Asked.{goes_on_lem}
 use Rattle.validator.proofs.Schedule.{mac_asked}
-use Rattle.checks.proofs.Unasked.{egress_stays}
-use Rattle.checks.proofs.Read.{fields_asked}
 use Rattle.checks.proofs.validate_egress.Goals as goal
-
-pub returns-in_default : goal.returns-in_default
-returns-in_default c =
-    let asked = fields_asked c.args.at c.args.path.now c.curr_hop_field_idx-hop_index.ensures c.curr_hop_field-hop.ensures c.curr_info_field-info.ensures
-    c.validate_hop-here.ensures in
-    c.in_default.is ∙ sym (stops _ _ _ (sym asked ∙ c.in_default.is))
-
-pub returns-then-at : goal.returns-then-at
-returns-then-at c =
-    let asked = fields_asked c.args.at c.args.path.now c.curr_hop_field_idx-hop_index.ensures c.curr_hop_field-hop.ensures c.curr_info_field-info.ensures
-    c.validate_hop-here.ensures in
-    sym (egress_stays (key_mac c.args.forwarding_key.now) c.args.at c.if-at.true c.args.path.now (sym asked ∙ c.in-Valid.is))
 
 pub returns : goal.returns
 returns c =
-    let asked = fields_asked c.args.at c.args.path.now c.curr_hop_field_idx-hop_index.ensures c.curr_hop_field-hop.ensures c.curr_info_field-info.ensures
-    c.validate_hop-here.ensures in
-    let here = mac_asked c.args.forwarding_key.now c.round_table-table.ensures c.expand_key-round_keys.ensures c.subkey_with-k1.ensures
-    c.if-at.false c.validate_mac.ensures c.curr_hop_field_idx-hop_index.ensures c.curr_hop_field-hop.ensures c.curr_info_field-info.ensures
-    (c.segment_id-segment_id.ensures ∙ ap seg_id c.curr_info_field-info.ensures) in
-    here ∙ sym (goes_on_lem _ _ (sym asked ∙ c.in-Valid.is))
+    let path = c.args.path.now in
+    let index = c.curr_hop_field_idx-hop_index.ensures in
+    let hop = c.curr_hop_field-hop.ensures in
+    let info = c.curr_info_field-info.ensures in
+    let schedule = c.new-schedule.ensures in
+    let asked : first_no (field_questions c.args.at (curr_hf path) (place.hop path) (place.info path)) ≡ Ok tt =
+    rw (index, hop, info) at (sym c.validate_hop.ensures ∙ c.in_ok-validate_hop.was) in
+    mac_asked c.args.forwarding_key.now (schedule.table ∙ c.round_table-table.ensures) schedule.round_keys schedule.k1
+    c.if-at.false c.validate_mac.ensures index hop info (c.segment_id.ensures ∙ ap seg_id info)
+    ∙ sym (goes_on_lem _ _ asked)

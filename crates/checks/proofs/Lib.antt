@@ -1,2 +1,0 @@
-pub mod Unasked
-pub mod Read
