@@ -60,6 +60,11 @@ impl InfoFieldLayout {
 
     pub const TIMESTAMP: u8 = 4;
 
+    // The bit of each flag.
+    pub const CONS_DIR: u8 = 1;
+
+    pub const PEERING: u8 = 2;
+
     // Where the info field with this index starts.
     pub fn offset(index: u8) -> usize
         ensures { result ≡ info_offset index }
@@ -85,6 +90,11 @@ impl HopFieldLayout {
     pub const MAC: u8 = 6;
 
     pub const MAC_SIZE_BYTES: usize = 6;
+
+    // The bit of each flag.
+    pub const CONS_EGRESS_ROUTER_ALERT: u8 = 1;
+
+    pub const CONS_INGRESS_ROUTER_ALERT: u8 = 2;
 
     // Where the hop field with this index starts, behind the info fields.
     pub fn offset(infos: u8, index: u8) -> usize
