@@ -33,12 +33,12 @@ unwrap_or_slice_get [] n = refl
 unwrap_or_slice_get (x ∷ xs) zero = refl
 unwrap_or_slice_get (x ∷ xs) (suc n) = unwrap_or_slice_get xs n
 
-module _ (chain : Chain) where
-  yields : YieldsList (YieldsFirst records_left) (λ x. x) chain (records_left chain)
-  yields = YieldsList-from_first (λ x. x) records_left (records_left chain) refl
+module _ {chain : Chain} {records : List ℕ} (these : records_left chain ≡ records) where
+  yields : YieldsList (YieldsFirst records_left) (λ x. x) chain records
+  yields = YieldsList-from_first (λ x. x) records_left records these
 
   pub chain_count : (answer : ℕ) → (xs : List ℕ) × Drains (YieldsFirst records_left) chain xs × (answer ≡ length xs)
-      → answer ≡ length (records_left chain)
+      → answer ≡ length records
   chain_count answer ran = count_from_yields_List chain answer ran yields
 
   module _ (after : Chain) where
@@ -46,19 +46,19 @@ module _ (chain : Chain) where
     pub chain_all : {F : Type 0} {g : Mut F (ℕ × Unit {0}) Bool} (test : ℕ → Bool) (f : F) (answer : Bool)
         → ChecksAll (YieldsFirst records_left) g chain f answer after
         → ((x : ℕ) (b : Bool) (q : F) → Called g f (x, tt) b q → (q ≡ f) × (b ≡ test x))
-        → answer ≡ every test (records_left chain)
+        → answer ≡ every test records
     chain_all test f answer ran computes =
-        all_from_yields_List test after f answer ran yields computes ∙ list_all_every test (records_left chain)
+        all_from_yields_List test after f answer ran yields computes ∙ list_all_every test records
 
     pub chain_find : {F : Type 0} {g : Mut F (Bor ℕ × Unit {0}) Bool} (test : ℕ → Bool) (f : F) (answer : Option ℕ)
         → FindsItem (YieldsFirst records_left) g chain f answer after
         → ((x : ℕ) (b : Bool) (q : F) → CalledAt g f x b q → (q ≡ f) × (b ≡ test x))
-        → answer ≡ find test (records_left chain)
+        → answer ≡ find test records
     chain_find test f answer ran computes =
         sym (option_map_same answer) ∙ find_from_yields_List test after f answer ran yields computes
 
     pub chain_nth : (answer : Option ℕ) (n : ℕ) → SkipsThenYields (YieldsFirst records_left) chain n answer after
-        → unwrap_or answer 0 ≡ get_or (records_left chain) n 0
+        → unwrap_or answer 0 ≡ get_or records n 0
     chain_nth answer n ran =
         ap (λ r. unwrap_or r 0) (sym (option_map_same answer) ∙ nth_from_yields_List answer after n ran yields)
-        ∙ unwrap_or_slice_get (records_left chain) n
+        ∙ unwrap_or_slice_get records n

@@ -1,10 +1,14 @@
 -- A chain, taken apart: it may go through `left` records more and stands at `index`.
 -- Assumes nothing.
-use mathlib.Core.Path.{◌≡◌, refl}
+use mathlib.Core.Path.{◌≡◌, refl, sym}
+use mathlib.Core.Bool.{Bool, true, false, cond}
 use mathlib.Core.List.{List, [], ◌∷◌}
-use Prim.Native.Nat.{ℕ, zero, suc, ◌-◌}
+use Prim.Native.Nat.{ℕ, zero, suc, ◌-◌, ◌≤◌}
 use native.Mathlib.Omega.{arith}
-use borrow.Author.Tests.{eq-eqb, ne_eqb}
+use borrow.Author.Tests.{eq-eqb, ne_eqb, eqb-false}
+use lib.Dec.{eqb}
+use Rattle.std.specs.List.{slice_get}
+use Rattle.std.specs.Prelude.{Some}
 use Rattle.records.specs.Layout.{Layout}
 use Rattle.records.specs.Records.{next_of, chain_within}
 
@@ -18,8 +22,36 @@ module _ (layout : Layout) (itinerary : List ℕ) where
   unfolding chain_within
   chain_out left index e = rw e
 
-  pub chain_on : (left index next : ℕ) → (left ≡ 0 → ⊥) → (index ≡ 0 → ⊥) → next ≡ next_of layout itinerary index
-      → chain_within layout itinerary left index ≡ index ∷ chain_within layout itinerary (left - 1) next
+  pub chain_on : (left index : ℕ) → (left ≡ 0 → ⊥) → (index ≡ 0 → ⊥)
+      → chain_within layout itinerary left index ≡ index ∷ chain_within layout itinerary (left - 1) (next_of layout itinerary index)
   unfolding chain_within
-  chain_on zero index next h n e = absurd (h refl)
-  chain_on (suc left) index next h n e = let d : suc left - 1 ≡ left = omega arith in rw (ne_eqb index 0 n, d, e)
+  chain_on zero index h n = absurd (h refl)
+  chain_on (suc left) index h n = let d : suc left - 1 ≡ left = omega arith in rw (ne_eqb index 0 n, d)
+
+  -- a chain that starts with a record
+  pub chain_starts : (left index x : ℕ) (xs : List ℕ) → chain_within layout itinerary left index ≡ x ∷ xs
+      → (1 ≤ left) × (index ≡ 0 → ⊥) × (index ≡ x) × (xs ≡ chain_within layout itinerary (left - 1) (next_of layout itinerary x))
+  unfolding chain_within
+  chain_starts zero index x xs e = cc
+  chain_starts (suc left) index x xs e = go (eqb index 0) refl e
+    where
+      go : (b : Bool) → eqb index 0 ≡ b → cond b [] (index ∷ chain_within layout itinerary left (next_of layout itinerary index)) ≡ x ∷ xs
+          → (1 ≤ suc left) × (index ≡ 0 → ⊥) × (index ≡ x) × (xs ≡ chain_within layout itinerary (suc left - 1) (next_of layout itinerary x))
+      go true z e = cc
+      go false z e =
+          let head : index ≡ x = cc in
+          let tail : chain_within layout itinerary left (next_of layout itinerary index) ≡ xs = cc in
+          let d : suc left - 1 ≡ left = omega arith in
+          (omega arith, eqb-false index 0 z, head, rw (d, ← head) (sym tail))
+
+  pub peeked : (left index x : ℕ) → Some x ≡ slice_get (chain_within layout itinerary left index) 0
+      → (1 ≤ left) × (chain_within layout itinerary left index ≡ x ∷ chain_within layout itinerary (left - 1) (next_of layout itinerary x))
+  peeked left index x e = go (chain_within layout itinerary left index) refl e
+    where
+      go : (xs : List ℕ) → chain_within layout itinerary left index ≡ xs → Some x ≡ slice_get xs 0
+          → (1 ≤ left) × (xs ≡ x ∷ chain_within layout itinerary (left - 1) (next_of layout itinerary x))
+      go [] d e = cc
+      go (y ∷ ys) d e =
+          let starts = chain_starts left index y ys d in
+          let same : y ≡ x = cc in
+          (starts.0, rw (starts.3, same))

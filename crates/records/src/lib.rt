@@ -4,7 +4,7 @@
 pub mod form;
 pub mod layout;
 
-ghost use Rattle.std.specs.Prelude.{◌≡◌};
+ghost use Rattle.std.specs.Prelude.{◌≡◌, slice_get};
 ghost use Rattle.std.specs.Iterator.{YieldsFirst, item_count};
 ghost use Rattle.octets.specs.Bytes.{be16_at};
 ghost use Rattle.records.specs.Layout.{layout_of, offset};
@@ -145,11 +145,23 @@ impl<'a> Itinerary<'a> {
 }
 
 // The records of a chain. It may still go through so many, whatever the bytes.
-#[derive(Clone, Copy)]
+#[derive(Clone, Drop)]
 pub struct Chain<'a> {
     itinerary: Itinerary<'a>,
     index: u32,
     left: usize,
+}
+
+impl<'a> Chain<'a> {
+    // The first of them, which stays.
+    pub fn peek(&self) -> Option<u32>
+        ensures { result ≡ slice_get (records_left self.now) 0 }
+    {
+        if self.left == 0 || self.index == 0 {
+            return None;
+        }
+        Some(self.index)
+    }
 }
 
 impl<'a> Iterator for Chain<'a> {
@@ -160,10 +172,7 @@ impl<'a> Iterator for Chain<'a> {
     ghost remaining = { item_count records_left };
 
     fn next(&mut self) -> Option<u32> {
-        if self.left == 0 || self.index == 0 {
-            return None;
-        }
-        let index = self.index;
+        let index = self.peek()?;
         self.index = self.itinerary.next(index);
         self.left -= 1;
         Some(index)

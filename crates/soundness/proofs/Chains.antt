@@ -1,6 +1,6 @@
 -- A sound chain goes up, so it has fewer records than there are: limits of as many, or more, are all the same.
 -- Assumes nothing.
-use mathlib.Core.Path.{◌≡◌, refl, ◌∙◌}
+use mathlib.Core.Path.{◌≡◌, refl, sym, ◌∙◌}
 use mathlib.Core.Bool.{Bool, true, false, cond, ◌&&◌, ◌||◌}
 use mathlib.Core.List.{List, [], ◌∷◌}
 use mathlib.Core.Logic.{◌⊎◌, inl, inr, ⊎_elim}
@@ -152,3 +152,15 @@ module _ (layout : Layout) (itinerary : List ℕ) where
   whole_sound station_limit table_limit h k =
       each_way _ _ (λ e. same_soundness station_limit table_limit records records h k (omega arith) (omega arith) e ∙ e)
       (λ e. same_soundness records records station_limit table_limit (omega arith) (omega arith) h k e ∙ e)
+
+-- ---- stations whose nexts are not sound are not sound
+
+pub nexts_unsound : (layout : Layout) (itinerary chained : List ℕ) (table_of : ℕ → List ℕ)
+    → every (next_sound layout itinerary) chained ≡ false → false ≡ every (station_sound layout itinerary chained table_of) chained
+nexts_unsound layout itinerary chained table_of e = go (every (station_sound layout itinerary chained table_of) chained) refl
+  where
+    go : (b : Bool) → every (station_sound layout itinerary chained table_of) chained ≡ b → false ≡ b
+    go false d = refl
+    go true d =
+        sym e ∙ every_implied (station_sound layout itinerary chained table_of) (next_sound layout itinerary) chained
+        (station_next layout itinerary chained table_of) d

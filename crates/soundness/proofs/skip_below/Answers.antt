@@ -1,22 +1,18 @@
-use Rattle.records.proofs.Walks.{chain_end, chain_out}
-use borrow.Author.Rules.{rules}
-use native.Mathlib.Omega.{arith}
-use Rattle.soundness.proofs.Merge.{skipped_over, skipped_here, skipped_on}
+use mathlib.Core.Path.{sym, ◌∙◌}
+use borrow.Author.Tests.{tests}
+use Rattle.std.proofs.Common.{rules}
+use Rattle.records.specs.Chain.{records_left}
+use Rattle.soundness.proofs.Merge.{tested, skipped_over, skipped_on}
 use Rattle.soundness.proofs.skip_below.Goals as goal
 
-pub returns-then-index-station : goal.returns-then-index-station
-returns-then-index-station c =
-    record {
-      rest = skipped_here c.loop-left.invariant (search rules) c.if-station-eq0.false (omega arith);
-      reached = λ more here. omega arith;
-    }
+pub loop-index-preserved : goal.loop-index-preserved
+loop-index-preserved c =
+    let stations = records_left c.loop-index.stations in
+    let below = tested c.args.index stations c.peek.result c.is_some_and.result c.peek.ensures c.is_some_and.ensures (λ x k. search (rules, tests)) in
+    c.loop-index.invariant ∙ skipped_on c.args.index stations (records_left c.next.new.self) c.next.result (sym below ∙ c.loop-index-test.true) c.next.ensures.steps
 
-pub loop-left-preserved : goal.loop-left-preserved
-loop-left-preserved c =
-    skipped_on c.loop-left.invariant (search rules) c.if-station-eq0.false (omega arith) c.next-station.ensures
-
-pub returns-then-station-eq0-clause-rest : goal.returns-then-station-eq0-clause-rest
-returns-then-station-eq0-clause-rest c = skipped_over c.loop-left.invariant (chain_end _ _ _ _ c.if-station-eq0.true)
-
-pub returns-clause-rest : goal.returns-clause-rest
-returns-clause-rest c = skipped_over c.loop-left.invariant (chain_out _ _ _ _ (omega arith))
+pub returns : goal.returns
+returns c =
+    let stations = records_left c.loop-index.stations in
+    let below = tested c.args.index stations c.peek.result c.is_some_and.result c.peek.ensures c.is_some_and.ensures (λ x k. search (rules, tests)) in
+    skipped_over c.args.index stations (sym below ∙ c.loop-index-test.false) ∙ sym c.loop-index.invariant
