@@ -7,6 +7,7 @@ use Prim.Native.Nat.{ℕ, zero, suc, ◌-◌, ◌≤◌}
 use native.Mathlib.Omega.{arith}
 use borrow.Author.Tests.{eq-eqb, ne_eqb, eqb-false}
 use lib.Dec.{eqb}
+use lib.ListN.{length}
 use Rattle.std.specs.List.{slice_get}
 use Rattle.std.specs.Prelude.{Some}
 use Rattle.records.specs.Layout.{Layout}
@@ -27,6 +28,16 @@ module _ (layout : Layout) (itinerary : List ℕ) where
   unfolding chain_within
   chain_on zero index h n = absurd (h refl)
   chain_on (suc left) index h n = let d : suc left - 1 ≡ left = omega arith in rw (ne_eqb index 0 n, d)
+
+  pub chain_short : (left index : ℕ) → length (chain_within layout itinerary left index) ≤ left
+  unfolding chain_within
+  chain_short zero index = omega arith
+  chain_short (suc left) index = go (eqb index 0) (chain_short left (next_of layout itinerary index))
+    where
+      go : (b : Bool) → length (chain_within layout itinerary left (next_of layout itinerary index)) ≤ left
+          → length (cond b [] (index ∷ chain_within layout itinerary left (next_of layout itinerary index))) ≤ suc left
+      go true h = omega arith
+      go false h = omega arith
 
   -- a chain that starts with a record
   pub chain_starts : (left index x : ℕ) (xs : List ℕ) → chain_within layout itinerary left index ≡ x ∷ xs

@@ -41,7 +41,7 @@ fn are_interfaces_sound(itinerary: Itinerary<'_>, limits: Limits, station: u32) 
         (station_records_within (layout_of itinerary.entry.form) itinerary.entry.bytes.now limits.stations))
         (table_records_within (layout_of itinerary.entry.form) itinerary.entry.bytes.now limits.table station) }
 {
-    let mut stations = itinerary.station_records_within(limits.stations);
+    let mut stations = itinerary.chain_within(itinerary.next(0), limits.stations);
     for index in itinerary.table_records_within(station, limits.table) {
         if !(record_rules::is_next_sound(itinerary, index)
             & record_rules::are_interface_zeros_sound(itinerary, index))

@@ -1,77 +1,50 @@
--- What the loops owe that seek a station or go along a table. A walk may take `left` records more and stands at `index`; `limit` and
--- `first` are where it began.
+-- What a lookup and a pass along a table come to, over the records of the table.
 -- Assumes nothing.
-use mathlib.Core.Path.{◌≡◌, refl, sym, ◌∙◌}
-use mathlib.Core.Bool.{Bool, true, false, ◌&&◌, and-false}
-use mathlib.Core.List.{List, [], map}
-use Prim.Native.Nat.{ℕ, suc, ◌+◌, ◌-◌, ◌≤◌, ◌<◌}
+use mathlib.Core.Path.{◌≡◌, refl, ap, sym, ◌∙◌}
+use mathlib.Core.Bool.{Bool, true, false, cond, ◌&&◌, and-false}
+use mathlib.Core.List.{List, [], ◌∷◌, map}
+use Prim.Native.Nat.{ℕ, ◌+◌, ◌≤◌, ◌<◌}
 use native.Mathlib.Omega.{arith}
-use borrow.Author.Tests.{eq-eqb, ne_eqb, lt-ltb, le-ltb, le-leb, lt-leb}
-use lib.Dec.{leb}
-use lib.ListN.{length, get_or, length-map}
+use borrow.Author.Tests.{lt-ltb, le-ltb, le-leb, lt-leb}
+use lib.Dec.{eqb, leb}
+use lib.ListN.{length, length-map}
+use Rattle.std.specs.List.{find}
+use Rattle.std.specs.Option.{option_map}
+use Rattle.std.specs.Prelude.{Option, Some, None}
 use Rattle.interface_table.specs.Table.{table_sound, state_of}
-use Rattle.interface_table.specs.declared.Listed.{Listed}
-use Rattle.interface_table.specs.declared.Listed.TheVariants.{State, Nothing}
 use Rattle.interface_table.proofs.Entries.{entries_sound, sound_by_entries}
 use Rattle.records.specs.Layout.{Layout}
-use Rattle.records.specs.Records.{next_of, interface_number_of, interface_state_of, chain_within}
-use Rattle.records.proofs.Walks.{chain_end, chain_out, chain_on, Counted, counted_over, counted_on}
-
--- ---- a station is sought by its place: so many were passed
-
-pub record Passed (layout : Layout) (itinerary : List ℕ) (place limit first passed left index : ℕ) : Type 0 where
-  pub fewer : passed ≤ place
-  pub rest : get_or (chain_within layout itinerary limit first) place 0 ≡ get_or (chain_within layout itinerary left index) (place - passed) 0
-
-module _ {layout : Layout} {itinerary : List ℕ} {place limit first passed left index : ℕ}
-    (walked : Passed layout itinerary place limit first passed left index) where
-  pub passed_over : chain_within layout itinerary left index ≡ [] → 0 ≡ get_or (chain_within layout itinerary limit first) place 0
-  passed_over e = sym (walked.rest ∙ rw e)
-
-  pub passed_here : 0 < left → (index ≡ 0 → ⊥) → passed ≡ place → index ≡ get_or (chain_within layout itinerary limit first) place 0
-  passed_here h n e =
-      let d : place - passed ≡ 0 = omega arith in
-      sym (walked.rest ∙ rw (d, chain_on layout itinerary left index _ h n refl))
-
-  pub passed_on : {next : ℕ} → 0 < left → (index ≡ 0 → ⊥) → (passed ≡ place → ⊥) → next ≡ next_of layout itinerary index
-      → Passed layout itinerary place limit first (passed + 1) (left - 1) next
-  passed_on {next} h n e q =
-      let f : passed ≤ place = walked.fewer in
-      let d : place - passed ≡ suc (place - (passed + 1)) = omega arith in
-      record { fewer = omega arith; rest = walked.rest ∙ rw (d, chain_on layout itinerary left index next h n q) }
+use Rattle.records.specs.Records.{interface_number_of, interface_state_of}
 
 -- ---- the first record of a table with the number wanted
 
 module _ (layout : Layout) (itinerary : List ℕ) where
-  abbrev listed : List ℕ → ℕ → Listed
+  abbrev pub listed : List ℕ → ℕ → Option ℕ
   listed records wanted =
       state_of (map (interface_number_of layout itinerary) records) (map (interface_state_of layout itinerary) records) wanted
 
-pub record Sought (layout : Layout) (itinerary : List ℕ) (wanted limit first left index : ℕ) : Type 0 where
-  pub rest : listed layout itinerary (chain_within layout itinerary limit first) wanted
-      ≡ listed layout itinerary (chain_within layout itinerary left index) wanted
-
-module _ {layout : Layout} {itinerary : List ℕ} {wanted limit first left index : ℕ}
-    (sought : Sought layout itinerary wanted limit first left index) where
-  pub sought_over : chain_within layout itinerary left index ≡ []
-      → Nothing ≡ listed layout itinerary (chain_within layout itinerary limit first) wanted
+  pub listed_by_find : (records : List ℕ) (wanted : ℕ)
+      → option_map (interface_state_of layout itinerary) (find (λ index. eqb (interface_number_of layout itinerary index) wanted) records)
+      ≡ listed records wanted
   unfolding state_of
-  sought_over e = sym (sought.rest ∙ rw e)
+  listed_by_find [] wanted = refl
+  listed_by_find (index ∷ records) wanted = go (eqb (interface_number_of layout itinerary index) wanted) (listed_by_find records wanted)
+    where
+      go : (b : Bool)
+          → option_map (interface_state_of layout itinerary) (find (λ index. eqb (interface_number_of layout itinerary index) wanted) records)
+          ≡ listed records wanted
+          → option_map (interface_state_of layout itinerary)
+          (cond b (Some index) (find (λ index. eqb (interface_number_of layout itinerary index) wanted) records))
+          ≡ cond b (Some (interface_state_of layout itinerary index)) (listed records wanted)
+      go true rest = refl
+      go false rest = rest
 
-  pub sought_here : 0 < left → (index ≡ 0 → ⊥) → interface_number_of layout itinerary index ≡ wanted
-      → State (interface_state_of layout itinerary index) ≡ listed layout itinerary (chain_within layout itinerary limit first) wanted
-  unfolding state_of
-  sought_here h n e =
-      sym (sought.rest ∙ rw (chain_on layout itinerary left index _ h n refl, eq-eqb (interface_number_of layout itinerary index) wanted e))
+  module _ (records : List ℕ) (wanted : ℕ) (answer : Option ℕ) (e : answer ≡ find (λ index. eqb (interface_number_of layout itinerary index) wanted) records) where
+    pub found : (index state : ℕ) → answer ≡ Some index → state ≡ interface_state_of layout itinerary index → Some state ≡ listed records wanted
+    found index state d q = rw q (ap (option_map (interface_state_of layout itinerary)) (sym d ∙ e) ∙ listed_by_find records wanted)
 
-  pub sought_on : {next : ℕ} → 0 < left → (index ≡ 0 → ⊥) → (interface_number_of layout itinerary index ≡ wanted → ⊥)
-      → next ≡ next_of layout itinerary index → Sought layout itinerary wanted limit first (left - 1) next
-  unfolding state_of
-  sought_on {next} h n e q =
-      record {
-        rest = sought.rest
-            ∙ rw (chain_on layout itinerary left index next h n q, ne_eqb (interface_number_of layout itinerary index) wanted e);
-      }
+    pub not_found : answer ≡ None → None ≡ listed records wanted
+    not_found d = ap (option_map (interface_state_of layout itinerary)) (sym d ∙ e) ∙ listed_by_find records wanted
 
 -- ---- a table is asked in one pass: each number is at least the lowest still allowed
 
@@ -83,54 +56,52 @@ module _ (layout : Layout) (itinerary : List ℕ) where
   abbrev sound_table : List ℕ → Bool
   sound_table records = table_sound (map (interface_number_of layout itinerary) records) (map (interface_state_of layout itinerary) records)
 
-pub record Entered (layout : Layout) (itinerary : List ℕ) (first lowest left index : ℕ) : Type 0 where
-  pub rest : entries_from layout itinerary 0 (chain_within layout itinerary 257 first)
-      ≡ entries_from layout itinerary lowest (chain_within layout itinerary left index)
-  pub counted : Counted layout itinerary 257 first left index
+-- so many were passed, and these are left
+pub record Entered (layout : Layout) (itinerary records : List ℕ) (passed lowest : ℕ) (left : List ℕ) : Type 0 where
+  pub few : passed ≤ 256
+  pub rest : sound_table layout itinerary records ≡ (leb (passed + length left) 256 && entries_from layout itinerary lowest left)
 
-module _ {layout : Layout} {itinerary : List ℕ} {first lowest left index : ℕ}
-    (entered : Entered layout itinerary first lowest left index) where
-  by_entries : sound_table layout itinerary (chain_within layout itinerary 257 first)
-      ≡ (leb (length (chain_within layout itinerary 257 first)) 256
-      && entries_from layout itinerary lowest (chain_within layout itinerary left index))
-  by_entries =
-      sound_by_entries (map (interface_number_of layout itinerary) (chain_within layout itinerary 257 first))
-      (map (interface_state_of layout itinerary) (chain_within layout itinerary 257 first))
-      ∙ rw (length-map, entered.rest)
+pub entered_none : (layout : Layout) (itinerary records left : List ℕ) (passed : ℕ) → passed ≡ 0 → left ≡ records
+    → Entered layout itinerary records passed 0 left
+entered_none layout itinerary records left passed e d =
+    let n : 0 + length records ≡ length records = omega arith in
+    record {
+      few = omega arith;
+      rest = sound_by_entries (map (interface_number_of layout itinerary) records) (map (interface_state_of layout itinerary) records)
+          ∙ rw (length-map, d, e, n);
+    }
 
-  unsound : entries_from layout itinerary lowest (chain_within layout itinerary left index) ≡ false
-      → false ≡ sound_table layout itinerary (chain_within layout itinerary 257 first)
-  unsound e = sym (by_entries ∙ rw (e, and-false))
-
-  pub entered_end : 0 < left → index ≡ 0 → true ≡ sound_table layout itinerary (chain_within layout itinerary 257 first)
+module _ {layout : Layout} {itinerary records : List ℕ} {passed lowest : ℕ} {left : List ℕ}
+    (entered : Entered layout itinerary records passed lowest left) where
+  pub entered_all : left ≡ [] → true ≡ sound_table layout itinerary records
   unfolding entries_sound
-  entered_end h e =
-      let few : length (chain_within layout itinerary 257 first) ≤ 256 = omega (arith, counted_over entered.counted (chain_end layout itinerary left index e)) in
-      sym (by_entries ∙ rw (le-leb _ 256 few, chain_end layout itinerary left index e))
+  entered_all e =
+      let few : passed + 0 ≤ 256 = omega (arith, entered.few) in
+      sym (entered.rest ∙ rw (e, le-leb (passed + 0) 256 few))
 
-  pub entered_out : left ≡ 0 → false ≡ sound_table layout itinerary (chain_within layout itinerary 257 first)
-  entered_out e =
-      let many : 256 < length (chain_within layout itinerary 257 first) = omega (arith, counted_over entered.counted (chain_out layout itinerary left index e)) in
-      sym (by_entries ∙ rw (lt-leb _ 256 many))
+  unsound : entries_from layout itinerary lowest left ≡ false → false ≡ sound_table layout itinerary records
+  unsound e = sym (entered.rest ∙ rw (e, and-false))
 
-  module _ (more : 0 < left) (here : index ≡ 0 → ⊥) where
-    pub entered_low : interface_number_of layout itinerary index < lowest
-        → false ≡ sound_table layout itinerary (chain_within layout itinerary 257 first)
+  module _ {index : ℕ} {later : List ℕ} (turn : left ≡ index ∷ later) where
+    pub entered_many : passed ≡ 256 → false ≡ sound_table layout itinerary records
+    entered_many e =
+        let many : 256 < passed + length (index ∷ later) = omega arith in
+        sym (entered.rest ∙ rw (turn, lt-leb (passed + length (index ∷ later)) 256 many))
+
+    pub entered_low : interface_number_of layout itinerary index < lowest → false ≡ sound_table layout itinerary records
     unfolding entries_sound
-    entered_low h = unsound (rw (chain_on layout itinerary left index _ more here refl, lt-leb lowest _ h))
+    entered_low h = unsound (rw (turn, lt-leb lowest (interface_number_of layout itinerary index) h))
 
     module _ (high : lowest ≤ interface_number_of layout itinerary index) where
-      pub entered_state : 8 ≤ interface_state_of layout itinerary index
-          → false ≡ sound_table layout itinerary (chain_within layout itinerary 257 first)
+      pub entered_state : 8 ≤ interface_state_of layout itinerary index → false ≡ sound_table layout itinerary records
       unfolding entries_sound
-      entered_state h =
-          unsound (rw (chain_on layout itinerary left index _ more here refl, le-leb lowest _ high, le-ltb _ 8 h))
+      entered_state h = unsound (rw (turn, le-leb lowest _ high, le-ltb _ 8 h))
 
-      pub entered_on : {number next : ℕ} → interface_state_of layout itinerary index < 8 → number ≡ interface_number_of layout itinerary index
-          → next ≡ next_of layout itinerary index → Entered layout itinerary first (number + 1) (left - 1) next
+      pub entered_on : (passed ≡ 256 → ⊥) → interface_state_of layout itinerary index < 8
+          → {number more : ℕ} → number ≡ interface_number_of layout itinerary index → more ≡ passed + 1
+          → Entered layout itinerary records more (number + 1) later
       unfolding entries_sound
-      entered_on {number} {next} h e q =
-          record {
-            rest = entered.rest ∙ rw (chain_on layout itinerary left index next more here q, le-leb lowest _ high, lt-ltb _ 8 h, e);
-            counted = counted_on entered.counted more here q;
-          }
+      entered_on n h {number} {more} e d =
+          let m : passed + length (index ∷ later) ≡ more + length later = omega arith in
+          let few = entered.few in
+          record { few = omega (arith, n, few); rest = entered.rest ∙ rw (turn, le-leb lowest _ high, lt-ltb _ 8 h, e, m) }

@@ -11,7 +11,7 @@ loop-index-init c =
     let layout = layout_of itinerary.form in
     let limits = c.args.limits in
     merged_start layout itinerary.bytes.now limits.stations (first_station layout itinerary.bytes.now) limits.table (first_interface_of layout itinerary.bytes.now c.args.station)
-    _ _ c.requires c.station_records_within-stations.ensures
+    _ _ c.requires (rw (← c.next.ensures) c.chain_within-stations.ensures)
     (ap records_left c.into_iter-index-iterator.ensures.into_iter_gives ∙ c.table_records_within-index-items.ensures)
 
 pub returns-then-not-is_next_sound-are_interface_zeros_sound : goal.returns-then-not-is_next_sound-are_interface_zeros_sound

@@ -1,11 +1,11 @@
 use Rattle.records.specs.Layout.{layout_of}
-use Rattle.records.specs.Records.{first_interface_of}
+use Rattle.records.specs.Chain.{records_left}
+use Rattle.records.specs.Inner.{table_records_within}
+use Rattle.std.specs.Iterator.Adapters.{enumerate_source, enumerate_count}
 use Rattle.station.proofs.Walks.{Entered}
 use Rattle.station.proofs.is_table_sound.Given as goal
 
-abbrev pub invariant-loop-left : goal.invariant-loop-left
-invariant-loop-left l =
-    Entered (layout_of l.form) l.itinerary (first_interface_of (layout_of l.form) l.itinerary l.station) l.lowest l.left l.index
-
-abbrev pub decreases-loop-left : goal.decreases-loop-left
-decreases-loop-left l = l.left
+abbrev pub invariant-loop-entries : goal.invariant-loop-entries
+invariant-loop-entries l =
+    Entered (layout_of l.itinerary.form) l.itinerary.bytes.now (table_records_within (layout_of l.itinerary.form) l.itinerary.bytes.now 257 l.station)
+    (enumerate_count l.entries-iterator) l.lowest (records_left (enumerate_source l.entries-iterator))

@@ -1,28 +1,31 @@
-use borrow.Author.Rules.{rules}
-use mathlib.Core.Path.{sym, ◌∙◌}
-use native.Mathlib.Omega.{arith}
+use mathlib.Core.Path.{◌∙◌}
+use Prim.Native.Nat.{ℕ}
+use mathlib.Core.Bool.{Bool}
+use lib.Dec.{eqb}
+use borrow.Author.Tests.{tests}
+use Rattle.std.proofs.Common.{rules}
+use Rattle.records.specs.Layout.{layout_of}
+use Rattle.records.specs.Records.{interface_number_of, table_records}
+use Rattle.records.proofs.Chains.{chain_find}
 use Rattle.station.specs.Station.{station_with}
-use Rattle.records.proofs.Walks.{chain_end, chain_out}
-use Rattle.station.proofs.Walks.{sought_over, sought_here, sought_on}
+use Rattle.station.proofs.Walks.{found, not_found}
 use Rattle.station.proofs.lookup.Goals as goal
-
-pub returns-then-index-eq0 : goal.returns-then-index-eq0
-unfolding station_with
-returns-then-index-eq0 c = sought_over c.loop-left.invariant (chain_end _ _ _ _ c.if-index-eq0.true)
-
-pub returns-then-interface_number-number : goal.returns-then-interface_number-number
-unfolding station_with
-returns-then-interface_number-number c =
-    let same = sym c.interface_number.ensures ∙ c.if-interface_number-number.true in
-    rw c.interface_state.ensures
-    (sought_here c.loop-left.invariant (search rules) c.if-index-eq0.false same)
-
-pub loop-left-preserved : goal.loop-left-preserved
-loop-left-preserved c =
-    let number = c.interface_number.ensures in
-    sought_on c.loop-left.invariant (search rules) c.if-index-eq0.false
-    (λ e. c.if-interface_number-number.false (number ∙ e)) c.next-index.ensures
 
 pub returns : goal.returns
 unfolding station_with
-returns c = sought_over c.loop-left.invariant (chain_out _ _ _ _ (omega arith))
+returns c =
+    let itinerary = c.args.itinerary in
+    let layout = layout_of itinerary.form in
+    let is_it : ℕ → Bool = λ index. eqb (interface_number_of layout itinerary.bytes.now index) c.args.number in
+    found layout itinerary.bytes.now (table_records layout itinerary.bytes.now c.args.station) c.args.number c.find.result
+    (chain_find c.table_records.ensures c.find.new.self is_it _ c.find.result c.find.ensures.ran (λ x b q k. search (rules, tests)))
+    c.in_ok-index.index c.interface_state.result c.in_ok-index.was c.interface_state.ensures
+
+pub returns-in_err-index : goal.returns-in_err-index
+unfolding station_with
+returns-in_err-index c =
+    let itinerary = c.args.itinerary in
+    let layout = layout_of itinerary.form in
+    let is_it : ℕ → Bool = λ index. eqb (interface_number_of layout itinerary.bytes.now index) c.args.number in
+    c.from_residual.ensures ∙ not_found layout itinerary.bytes.now (table_records layout itinerary.bytes.now c.args.station) c.args.number c.find.result
+    (chain_find c.table_records.ensures c.find.new.self is_it _ c.find.result c.find.ensures.ran (λ x b q k. search (rules, tests))) c.in_err-index.was
