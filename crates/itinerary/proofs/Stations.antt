@@ -3,20 +3,17 @@
 use mathlib.Core.Path.{◌≡◌, refl, sym, ◌∙◌}
 use mathlib.Core.Bool.{Bool, true, false, cond, not, ◌&&◌}
 use mathlib.Core.List.{List, [], ◌∷◌, map}
-use Prim.Native.Nat.{ℕ, zero, suc, ◌+◌, ◌-◌, ◌<◌}
+use Prim.Native.Nat.{ℕ, zero, suc, ◌<◌}
 use native.Mathlib.Omega.{arith}
 use borrow.Author.Tests.{eqb-true, eqb-false, eq-eqb, ne_eqb}
 use lib.Dec.{eqb}
 use lib.ListN.{length, get_or, length-map}
 use Rattle.interface_table.specs.Table.{table_sound}
 use Rattle.records.specs.Layout.{Layout}
-use Rattle.records.specs.Records.{every, next_of, arrival_of, first_station, chain_within}
+use Rattle.records.specs.Records.{every, next_of, arrival_of, chain_within}
 use Rattle.station.specs.Station.{Station, station_with}
 use Rattle.itinerary.specs.Itinerary.{stations_of, tables_sound, arrivals_fit}
-use Rattle.itinerary.specs.Inner.{stations_within}
-use Rattle.records.specs.Inner.{table_records_within}
 use Rattle.records.proofs.Every.{every_map}
-use Rattle.records.proofs.Walks.{chain_end, chain_on}
 
 get_or_map : {B : Type 0} (f : ℕ → B) (xs : List ℕ) (place : ℕ) (none : B) → place < length xs
     → get_or (map f xs) place none ≡ f (get_or xs place 0)
@@ -44,35 +41,25 @@ module _ (layout : Layout) (itinerary : List ℕ) where
     unfolding stations_of
     station_from_record place none h = get_or_map (station_with layout itinerary table_of) chained place none h
 
-  module _ (later table_limit : ℕ) {first : ℕ} (e : first ≡ first_station layout itinerary) where
-    pub none_arrives : first ≡ 0 → true ≡ arrivals_fit (stations_within layout itinerary (later + 1) table_limit)
+  -- the first arrival, and the later ones
+  module _ (chained : List ℕ) (table_of : ℕ → List ℕ) where
+    pub none_arrives : chained ≡ [] → true ≡ arrivals_fit (stations_of layout itinerary chained table_of)
     unfolding stations_of arrivals_fit
-    none_arrives z = rw (← e, chain_end layout itinerary (later + 1) first z)
+    none_arrives e = rw e
 
-    module _ (here : first ≡ 0 → ⊥) {arrival : ℕ} (d : arrival ≡ arrival_of layout itinerary first) where
-      by_records : arrivals_fit (stations_within layout itinerary (later + 1) table_limit)
-          ≡ (eqb arrival 0 && every (λ station. not (eqb (arrival_of layout itinerary station) 0))
-          (chain_within layout itinerary later (next_of layout itinerary first)))
+    module _ (first : ℕ) (later : List ℕ) (e : chained ≡ first ∷ later) (arrival : ℕ) (d : arrival ≡ arrival_of layout itinerary first) where
+      by_records : arrivals_fit (stations_of layout itinerary chained table_of)
+          ≡ (eqb arrival 0 && every (λ station. not (eqb (arrival_of layout itinerary station) 0)) later)
       unfolding stations_of station_with arrivals_fit
       by_records =
-          let rest : later + 1 - 1 ≡ later = omega arith in
-          rw (
-            d,
-            ← e,
-            chain_on layout itinerary (later + 1) first _ (omega arith) here refl,
-            rest,
-            every_map (λ station. not (eqb station.arrival 0))
-                (station_with layout itinerary (table_records_within layout itinerary table_limit))
-                (chain_within layout itinerary later (next_of layout itinerary first)),
-          )
+          rw (e, d, every_map (λ station. not (eqb station.arrival 0)) (station_with layout itinerary table_of) later)
 
-      pub first_arrives : (arrival ≡ 0 → ⊥) → false ≡ arrivals_fit (stations_within layout itinerary (later + 1) table_limit)
-      first_arrives n = sym (by_records ∙ rw (ne_eqb _ 0 n))
+      pub first_arrives : (arrival ≡ 0 → ⊥) → eqb arrival 0 ≡ arrivals_fit (stations_of layout itinerary chained table_of)
+      first_arrives n = sym (by_records ∙ rw (ne_eqb arrival 0 n))
 
-      pub later_arrive : arrival ≡ 0 → {next : ℕ} → next ≡ next_of layout itinerary first → {answer : Bool}
-          → answer ≡ every (λ station. not (eqb (arrival_of layout itinerary station) 0)) (chain_within layout itinerary later next)
-          → answer ≡ arrivals_fit (stations_within layout itinerary (later + 1) table_limit)
-      later_arrive z q a = a ∙ sym (by_records ∙ rw (eq-eqb _ 0 z, q))
+      pub later_arrive : arrival ≡ 0 → {answer : Bool} → answer ≡ every (λ station. not (eqb (arrival_of layout itinerary station) 0)) later
+          → answer ≡ arrivals_fit (stations_of layout itinerary chained table_of)
+      later_arrive z a = a ∙ sym (by_records ∙ rw (eq-eqb arrival 0 z))
 
   -- ---- a station by its place
 

@@ -1,23 +1,16 @@
-use native.Mathlib.Omega.{arith}
-use borrow.Author.Rules.{rules}
-use Rattle.itinerary.proofs.Stations.{tables_by_records}
-use Rattle.records.proofs.Walks.{chain_end, chain_out, asked_over, answered_no, answered_yes}
+use mathlib.Core.Path.{sym, ◌∙◌}
+use borrow.Author.Tests.{tests}
+use Rattle.std.proofs.Common.{rules}
+use Rattle.records.specs.Layout.{layout_of}
+use Rattle.records.specs.Inner.{station_records_within, table_records_within}
+use Rattle.records.proofs.Chains.{chain_all}
+use Rattle.itinerary.proofs.Stations.{has_sound_table, tables_by_records}
 use Rattle.itinerary.proofs.are_tables_sound.Goals as goal
 
-pub returns-then-not-is_table_sound : goal.returns-then-not-is_table_sound
-returns-then-not-is_table_sound c =
-    let sound = c.is_table_sound.ensures in
-    rw (tables_by_records _)
-    (answered_no c.loop-left.invariant (search rules) c.if-station-eq0.false sound (search rules))
-
-pub loop-left-preserved : goal.loop-left-preserved
-loop-left-preserved c =
-    let sound = c.is_table_sound.ensures in
-    answered_yes c.loop-left.invariant (search rules) c.if-station-eq0.false sound
-    (search rules) c.next-station-in-loop-left.ensures
-
-pub returns-then-station-eq0 : goal.returns-then-station-eq0
-returns-then-station-eq0 c = rw (tables_by_records _) (asked_over c.loop-left.invariant (chain_end _ _ _ _ c.if-station-eq0.true))
-
 pub returns : goal.returns
-returns c = rw (tables_by_records _) (asked_over c.loop-left.invariant (chain_out _ _ _ _ (omega arith)))
+returns c =
+    let itinerary = c.args.itinerary in
+    let layout = layout_of itinerary.form in
+    let tables = table_records_within layout itinerary.bytes.now 257 in
+    chain_all c.station_records_within.ensures c.all.new.self (has_sound_table layout itinerary.bytes.now tables) _ c.all.result c.all.ensures.ran (λ x b q k. search (rules, tests))
+    ∙ sym (tables_by_records layout itinerary.bytes.now (station_records_within layout itinerary.bytes.now c.args.station_limit) tables)

@@ -4,9 +4,9 @@ use Rattle.itinerary.proofs.fits.Goals as goal
 
 pub returns : goal.returns
 returns c =
-    let args = c.args in
+    let itinerary = c.args.itinerary in
     rw (
-      ← fits_asked (layout_of args.form) args.itinerary.now args.wanted,
+      ← fits_asked (layout_of itinerary.form) itinerary.bytes.now c.args.wanted,
       ← c.is_sound_within.ensures,
       ← c.are_tables_sound.ensures,
       ← c.arrivals_fit.ensures,
