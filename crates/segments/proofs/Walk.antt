@@ -5,7 +5,7 @@ use mathlib.Core.Bool.{Bool, true, false}
 use mathlib.Core.List.{List, [], ◌∷◌}
 use Prim.Native.Nat.{ℕ, zero, suc, ◌+◌, ◌-◌, ◌≤◌, ◌<◌}
 use native.Mathlib.Omega.{arith}
-use borrow.Author.Tests.{eq-eqb, ne_eqb, le-leb, lt-leb, lt-ltb, le-ltb, leb-false, ltb-false}
+use borrow.Author.Tests.{le-leb, lt-leb, le-ltb, leb-false, ltb-false}
 use lib.Dec.{eqb, ltb, leb}
 use denote.Ref.{Bor}
 use lib.ListN.{length, get_or}
@@ -15,13 +15,6 @@ use Rattle.segments.specs.Segments.{segments_from, lengths, segments, segment_co
 use Rattle.segments.specs.declared.SegmentIterator.{SegmentIterator}
 use Rattle.segments.specs.declared.SegmentPlace.{SegmentPlace}
 use Rattle.segments.specs.declared.Segment.{Segment}
-
--- the test of a length, from that of what was read
-pub zero_length : {read n : ℕ} → read ≡ n → read ≡ 0 → eqb n 0 ≡ true
-zero_length {read} {n} e z = eq-eqb n 0 (omega arith)
-
-pub nonzero_length : {read n : ℕ} → read ≡ n → (read ≡ 0 → ⊥) → eqb n 0 ≡ false
-nonzero_length {read} {n} e z = ne_eqb n 0 (λ q. z (e ∙ q))
 
 -- the steps of an iterator to its end, with the segments that they give
 pub data Walk : SegmentIterator → List Segment → Type 0 where
@@ -44,14 +37,10 @@ module _ (path : List ℕ) where
   abbrev pub place : ℕ → ℕ → SegmentPlace
   place s h = record { seg_idx = s; hop_idx = h }
 
-  -- a step, by the tests that the code makes
+  -- a step, where it ends and where it goes on
   pub step_ends : (s h : ℕ) → segment_count path ≤ s → next_segment path (place s h) ≡ None
   unfolding next_segment
   step_ends s h e = simp (le-leb _ _ e)
-
-  pub step_short : (s h n : ℕ) → s < segment_count path → seg_len path s ≡ n → hops path < h + n → next_segment path (place s h) ≡ None
-  unfolding next_segment
-  step_short s h n b e r = rw e (simp (lt-leb _ _ b, lt-ltb _ _ r))
 
   pub step_goes : (s h n : ℕ) → s < segment_count path → seg_len path s ≡ n → h + n ≤ hops path
       → next_segment path (place s h) ≡ Some (record { info_idx = s; first_hop = h; hop_count = n })

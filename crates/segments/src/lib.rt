@@ -17,6 +17,7 @@ use standard_path::view;
 // ---- the segments
 
 // The segments before the first zero length.
+#[tactic(auto, unfolding(crate::specs::Segments::segment_count, crate::specs::Segments::segments))]
 pub fn segment_count(path: &[u8]) -> u8
     ensures { result ≡ segment_count path.now }
 {
@@ -61,16 +62,16 @@ pub struct Segment {
 
 impl Segment {
     // Its hop fields, as one part of the path.
+    #[tactic(auto, unfolding(crate::specs::Segments::hop_fields))]
     pub fn hop_fields(self, path: &[u8]) -> &[u8]
         ensures { result.now ≡ hop_fields path.now self.first_hop self.hop_count }
     {
         let at = HopFieldLayout::offset(view::info_field_count(path), self.first_hop);
-        let end = at + HopFieldLayout::SIZE_BYTES * (self.hop_count as usize);
-        if end <= path.len() {
-            &path[at..end]
-        } else {
-            view::rest(path, at)
-        }
+        view::part(
+            path,
+            at,
+            HopFieldLayout::SIZE_BYTES * (self.hop_count as usize),
+        )
     }
 }
 
@@ -82,6 +83,7 @@ pub struct SegmentPlace {
 }
 
 // The segment at a place. At a place whose hops are not all there, which no walk from the first place meets, there is none.
+#[tactic(auto, using(crate::proofs::Walk::count_at_most), unfolding(crate::specs::Segments::next_segment))]
 pub fn next_segment(path: &[u8], place: SegmentPlace) -> Option<Segment>
     ensures segment { result ≡ next_segment path.now place }
     ensures fits { IfSome result (λ s. (s.info_idx < 3) × (s.first_hop + s.hop_count < 256)) }

@@ -4,8 +4,8 @@
 // 866faf5ba3, and changed: rewritten in Rattle, with contracts; a view is a slice of bytes.
 // Copyright 2026 Anapaya Systems
 // Licensed under the Apache License, Version 2.0: see NOTICE.
-ghost use Rattle.std.specs.Prelude.{◌≡◌, ◌<◌, take, drop};
-ghost use Rattle.fields.specs.Layout.{nonzero, hop_offset};
+ghost use Rattle.std.specs.Prelude.{◌≡◌, ◌+◌, ◌<◌, eqb, take, drop};
+ghost use Rattle.fields.specs.Layout.{hop_offset};
 ghost use Rattle.standard_path.specs.Meta.{curr_inf, curr_hf, seg0_len, seg1_len, seg2_len, set_curr_inf, set_curr_hf};
 ghost use Rattle.standard_path.specs.Header.{infos, hops, info_field, hop_field, header_number, header_check};
 ghost use Rattle.standard_path.specs.Header.{segment_among, segment_index};
@@ -28,6 +28,7 @@ pub fn curr_hop_field_idx(path: &[u8]) -> u8
         % StdPathMetaLayout::CURR_HOP_FIELD_VALUES
 }
 
+// Each of the first two lengths lies in two bytes; one function for both would take five constants, and so say less.
 pub fn seg0_len(path: &[u8]) -> u8
     ensures { result ≡ seg0_len path.now }
 {
@@ -51,19 +52,14 @@ pub fn seg2_len(path: &[u8]) -> u8
     octets::u8_at(path, StdPathMetaLayout::SEG2_LEN) % StdPathMetaLayout::SEG2_LEN_VALUES
 }
 
-// 1 for a nonzero length.
-fn nonzero_length(length: u8) -> u8
-    ensures { result ≡ nonzero length }
-{
-    if length == 0 { 0 } else { 1 }
-}
-
+#[tactic(auto, unfolding(crate::specs::Header::infos))]
 pub fn info_field_count(path: &[u8]) -> u8
     ensures { result ≡ infos path.now }
 {
-    nonzero_length(seg0_len(path)) + nonzero_length(seg1_len(path)) + nonzero_length(seg2_len(path))
+    u8::from(seg0_len(path) != 0) + u8::from(seg1_len(path) != 0) + u8::from(seg2_len(path) != 0)
 }
 
+#[tactic(auto, unfolding(crate::specs::Header::hops))]
 pub fn hop_field_count(path: &[u8]) -> u8
     ensures { result ≡ hops path.now }
 {
@@ -71,6 +67,7 @@ pub fn hop_field_count(path: &[u8]) -> u8
 }
 
 // Two bits are kept of the index.
+#[tactic(auto, unfolding(crate::specs::Meta::set_curr_inf))]
 pub fn set_curr_info_field(path: &mut [u8], index: u8)
     ensures { path.new ≡ set_curr_inf path.old index }
 {
@@ -84,6 +81,7 @@ pub fn set_curr_info_field(path: &mut [u8], index: u8)
 }
 
 // Six bits are kept of the index.
+#[tactic(auto, unfolding(crate::specs::Meta::set_curr_hf))]
 pub fn set_curr_hop_field(path: &mut [u8], index: u8)
     ensures { path.new ≡ set_curr_hf path.old index }
 {
@@ -98,27 +96,26 @@ pub fn set_curr_hop_field(path: &mut [u8], index: u8)
 
 // ---- parts
 
-// What is left from a place on.
-pub fn rest(path: &[u8], at: usize) -> &[u8]
-    ensures { result.now ≡ drop at path.now }
+// As many bytes from a place on, or those that there are.
+pub fn part(path: &[u8], at: usize, size: usize) -> &[u8]
+    ensures { result.now ≡ take size (drop at path.now) }
 {
-    if at <= path.len() {
-        &path[at..]
+    if at <= path.len() && size <= path.len() - at {
+        &path[at..at + size]
     } else {
-        let end = path.len();
-        &path[end..]
+        path.get(at..).unwrap_or(&[])
     }
 }
 
+#[tactic(auto, unfolding(crate::specs::Header::info_field))]
 pub fn info_field(path: &[u8], index: u8) -> &[u8]
     ensures { result.now ≡ info_field path.now index }
 {
-    let at = InfoFieldLayout::offset(index);
-    if at + InfoFieldLayout::SIZE_BYTES <= path.len() {
-        &path[at..at + InfoFieldLayout::SIZE_BYTES]
-    } else {
-        rest(path, at)
-    }
+    part(
+        path,
+        InfoFieldLayout::offset(index),
+        InfoFieldLayout::SIZE_BYTES,
+    )
 }
 
 // Where the hop field with this index starts.
@@ -132,14 +129,10 @@ pub fn hop_field_offset(path: &[u8], index: u8) -> usize
 pub fn hop_field_at(path: &[u8], at: usize) -> &[u8]
     ensures { result.now ≡ take 12 (drop at path.now) }
 {
-    let after = rest(path, at);
-    if HopFieldLayout::SIZE_BYTES <= after.len() {
-        &after[..HopFieldLayout::SIZE_BYTES]
-    } else {
-        after
-    }
+    part(path, at, HopFieldLayout::SIZE_BYTES)
 }
 
+#[tactic(auto, unfolding(crate::specs::Header::hop_field))]
 pub fn hop_field(path: &[u8], index: u8) -> &[u8]
     ensures { result.now ≡ hop_field path.now index }
 {
@@ -179,6 +172,7 @@ pub fn header_number(error: HeaderError) -> u8
 }
 
 // Whether the bytes hold the whole header, and it has at most 64 hops.
+#[tactic(auto, unfolding(crate::specs::Header::header_check, crate::specs::Header::header_size, questions::specs::Questions::asks))]
 pub fn check_header(path: &[u8]) -> Result<(), HeaderError>
     ensures { result ≡ header_check path.now }
 {
@@ -203,34 +197,36 @@ pub struct SegmentIndex {
     pub end: bool,
 }
 
+// The hops of the segment are those from `start` up to `end`.
+fn in_segment(index: u8, start: u8, end: u8, hop: u8) -> SegmentIndex
+    requires { hop < end }
+    ensures { result ≡ record { index = index; start = eqb hop start; end = eqb (hop + 1) end } }
+{
+    SegmentIndex {
+        index,
+        start: hop == start,
+        end: hop + 1 == end,
+    }
+}
+
+#[tactic(auto, unfolding(crate::specs::Header::segment_among))]
 fn segment_of(seg0: u8, seg1: u8, seg2: u8, hop: u8) -> Option<SegmentIndex>
     requires { (seg0 < 64) × ((seg1 < 64) × (seg2 < 64)) }
     ensures { result ≡ segment_among seg0 seg1 seg2 hop }
 {
-    if hop < seg0 {
-        return Some(SegmentIndex {
-            index: 0,
-            start: hop == 0,
-            end: hop + 1 == seg0,
-        });
+    let (one, two, three) = (seg0, seg0 + seg1, seg0 + seg1 + seg2);
+    if hop < one {
+        Some(in_segment(0, 0, one, hop))
+    } else if hop < two {
+        Some(in_segment(1, one, two, hop))
+    } else if hop < three {
+        Some(in_segment(2, two, three, hop))
+    } else {
+        None
     }
-    if hop < seg0 + seg1 {
-        return Some(SegmentIndex {
-            index: 1,
-            start: hop == seg0,
-            end: hop + 1 == seg0 + seg1,
-        });
-    }
-    if hop < seg0 + seg1 + seg2 {
-        return Some(SegmentIndex {
-            index: 2,
-            start: hop == seg0 + seg1,
-            end: hop + 1 == seg0 + seg1 + seg2,
-        });
-    }
-    None
 }
 
+#[tactic(auto, unfolding(crate::specs::Header::segment_index))]
 pub fn calculate_segment_index(path: &[u8], hop_idx: u8) -> Option<SegmentIndex>
     ensures { result ≡ segment_index path.now hop_idx }
 {
