@@ -100,11 +100,9 @@ pub fn set_curr_hop_field(path: &mut [u8], index: u8)
 pub fn part(path: &[u8], at: usize, size: usize) -> &[u8]
     ensures { result.now ≡ take size (drop at path.now) }
 {
-    if at <= path.len() && size <= path.len() - at {
-        &path[at..at + size]
-    } else {
-        path.get(at..).unwrap_or(&[])
-    }
+    let start = at.min(path.len());
+    let end = start + size.min(path.len() - start);
+    &path[start..end]
 }
 
 #[tactic(auto, unfolding(crate::specs::Header::info_field))]
