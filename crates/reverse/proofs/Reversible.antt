@@ -7,7 +7,7 @@ use Prim.Native.Nat.{ℕ, ◌≤◌, ◌<◌}
 use native.Mathlib.Omega.{arith}
 use lib.Dec.{eqb, ltb}
 use lib.ListN.{length}
-use borrow.Author.Tests.{leb-true, ltb-true, eqb-false, eq-eqb, ne_eqb, le-ltb, lt-ltb}
+use borrow.Author.Tests.{leb-true, ltb-true, eqb-false}
 use Rattle.std.specs.Prelude.{Result, Ok, Err}
 use Rattle.questions.specs.Questions.{asks, within}
 use Rattle.questions.proofs.Asked.{asks_append, asks_within}
@@ -69,23 +69,6 @@ module _ (path : List ℕ) where
       go true true false p q r = let z : ◌≡◌ {A = ℕ} 0 1 = cc in absurd (omega arith)
       go true true true p q r = record { meta = leb-true _ _ p; fits = leb-true _ _ q; few = leb-true _ _ r }
 
-  pub no_segments : seg0_len path ≡ 0 → Err NoSegments ≡ asked path
-  unfolding asks
-  no_segments e = simp (eq-eqb _ _ e)
-
-  pub hop_out_of_bounds : (seg0_len path ≡ 0 → ⊥) → hops path ≤ curr_hf path → Err HopOutOfBounds ≡ asked path
-  unfolding asks
-  hop_out_of_bounds n h = simp (ne_eqb _ _ n, le-ltb _ _ h)
-
-  pub info_out_of_bounds : (seg0_len path ≡ 0 → ⊥) → curr_hf path < hops path → segment_count path ≤ curr_inf path
-      → Err InfoOutOfBounds ≡ asked path
-  unfolding asks
-  info_out_of_bounds n h i = simp (ne_eqb _ _ n, lt-ltb _ _ h, le-ltb _ _ i)
-
-  pub all_answered : (seg0_len path ≡ 0 → ⊥) → curr_hf path < hops path → curr_inf path < segment_count path → Ok tt ≡ asked path
-  unfolding asks
-  all_answered n h i = simp (ne_eqb _ _ n, lt-ltb _ _ h, lt-ltb _ _ i)
-
   pub reversible : reverse_answer path ≡ Ok tt → Reversible path
   unfolding asks
   reversible e =
@@ -103,6 +86,15 @@ module _ (path : List ℕ) where
       go (Ok complete) false true false p q r t f = let z : ◌≡◌ {A = ℕ} 0 1 = cc in absurd (omega arith)
       go (Ok complete) false true true p q r t f =
           record { complete = p; segments = eqb-false _ _ q; hop = ltb-true _ _ r; info = ltb-true _ _ t }
+
+  pub some_hop : reverse_answer path ≡ Ok tt → 0 < hops path
+  some_hop e = omega (arith, (reversible e).hop)
+
+  pub hop_inside : reverse_answer path ≡ Ok tt → curr_hf path < hops path
+  hop_inside e = (reversible e).hop
+
+  pub info_inside : reverse_answer path ≡ Ok tt → curr_inf path < segment_count path
+  info_inside e = (reversible e).info
 
   -- all fields of such a path are there, also once the lengths are swapped
   pub parts_all_there : reverse_answer path ≡ Ok tt

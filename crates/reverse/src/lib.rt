@@ -44,6 +44,7 @@ pub fn reverse_number(error: PathReverseError) -> u8
 }
 
 // 01's questions 2, 3 and 4, then 20, 21 and 22.
+#[tactic(auto, using(crate::proofs::Reversible::refused_header, crate::proofs::Reversible::complete_header), unfolding(questions::specs::Questions::asks))]
 fn answer(path: &[u8]) -> Result<(), PathReverseError>
     ensures { result ≡ reverse_answer path.now }
 {
@@ -60,6 +61,7 @@ fn answer(path: &[u8]) -> Result<(), PathReverseError>
     Ok(())
 }
 
+#[tactic(auto, using(crate::proofs::Reversible::some_hop, crate::proofs::Reversible::hop_inside, crate::proofs::Reversible::info_inside, crate::proofs::Reversible::parts_all_there), unfolding(crate::specs::Reverse::reversed))]
 fn turn_around(path: &mut [u8])
     requires { reverse_answer path.old ≡ Ok tt }
     ensures { path.new ≡ reversed path.old }
@@ -75,6 +77,7 @@ fn turn_around(path: &mut [u8])
 }
 
 // What an error leaves. An index out of bounds leaves the lengths swapped: the Rust asks for it after that.
+#[tactic(auto, unfolding(crate::specs::Reverse::bytes_left))]
 fn leave(path: &mut [u8], error: PathReverseError)
     ensures { path.new ≡ bytes_left (Err error) path.old }
 {
@@ -85,6 +88,7 @@ fn leave(path: &mut [u8], error: PathReverseError)
 }
 
 // Turns the path around, with the position in it kept.
+#[tactic(auto, unfolding(crate::specs::Reverse::bytes_left, crate::specs::Reverse::reverse_bytes))]
 pub fn try_reverse(path: &mut [u8]) -> Result<(), PathReverseError>
     ensures answer { result ≡ reverse_answer path.old }
     ensures bytes { path.new ≡ reverse_bytes path.old }
