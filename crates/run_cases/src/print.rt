@@ -1,55 +1,39 @@
 // What a line of the output is made of.
-use std::io;
-use std::io::Write;
-
-pub(crate) fn put(output: &mut impl Write, text: &[u8]) -> io::Result<()> {
-    output.write_all(text)
-}
-
-fn put_number(output: &mut impl Write, number: u64) -> io::Result<()> {
-    write!(output, " {number}")
-}
-
-fn put_values(output: &mut impl Write, values: [u64; 4], count: u16) -> io::Result<()> {
-    for value in values.iter().take(count as usize) {
-        put_number(output, *value)?;
-    }
-    Ok(())
-}
+use reply::Reply;
+use std::fmt;
 
 // The number and its values; type, code, and pointer or interface of the SCMP error, if there is one.
-pub(crate) fn put_answer(
-    output: &mut impl Write,
-    number: u16,
-    count: u16,
-    values: [u64; 4],
-    kind: u8,
-    code: u8,
-    pointer: u32,
-) -> io::Result<()> {
-    put_number(output, number as u64)?;
-    put_values(output, values, count)?;
-    if kind != 0 {
-        put(output, b", SCMP")?;
-        put_number(output, kind as u64)?;
-        put_number(output, code as u64)?;
-        put_number(output, pointer as u64)?;
-    }
-    Ok(())
-}
+#[derive(Clone, Copy)]
+pub(crate) struct Answer(pub(crate) Reply);
 
-fn put_byte(output: &mut impl Write, at: usize, byte: u8) -> io::Result<()> {
-    put_number(output, at as u64)?;
-    write!(output, "={byte:02x}")
-}
-
-// Writes the bytes that differ from those before, each with its place, and ends the line.
-pub(crate) fn put_left(output: &mut impl Write, before: &[u8], left: &[u8]) -> io::Result<()> {
-    put(output, b", left")?;
-    for (at, byte) in left.iter().enumerate() {
-        if *byte != octets::byte_at(before, at) {
-            put_byte(output, at, *byte)?;
+impl fmt::Display for Answer {
+    fn fmt<W: fmt::Write>(&self, f: &mut fmt::Formatter<W>) -> fmt::Result {
+        let reply = self.0;
+        write!(f, "{}", reply.number)?;
+        for value in reply.values.into_iter().take(usize::from(reply.count)) {
+            write!(f, " {value}")?;
         }
+        if reply.kind == 0 {
+            return Ok(());
+        }
+        write!(f, ", SCMP {} {} {}", reply.kind, reply.code, reply.pointer)
     }
-    put(output, b"\n")
+}
+
+// The bytes that differ from those before, each with its place.
+#[derive(Clone, Copy)]
+pub(crate) struct Left<'a> {
+    pub(crate) before: &'a [u8],
+    pub(crate) after: &'a [u8],
+}
+
+impl fmt::Display for Left<'_> {
+    fn fmt<W: fmt::Write>(&self, f: &mut fmt::Formatter<W>) -> fmt::Result {
+        for (at, (before, after)) in self.before.iter().zip(self.after).enumerate() {
+            if before != after {
+                write!(f, " {at}={after:02x}")?;
+            }
+        }
+        Ok(())
+    }
 }
