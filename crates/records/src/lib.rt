@@ -35,10 +35,11 @@ impl<'a> Itinerary<'a> {
         ensures { result ≡ be16_at self.entry.bytes.now (offset (layout_of self.entry.form) index field) }
     {
         let at = self.form.offset(index, field);
-        u16::from_be_bytes([
-            octets::byte_at(self.bytes, at),
-            octets::byte_at(self.bytes, at + 1),
-        ])
+        // One comparison serves both bytes of a field that does not run past the end.
+        match self.bytes.get(at..).and_then(|rest| rest.first_chunk()) {
+            Some(pair) => u16::from_be_bytes(*pair),
+            None => u16::from_be_bytes([octets::byte_at(self.bytes, at), 0]),
+        }
     }
 
     // How an index is read differs by form.

@@ -23,7 +23,7 @@ pub struct Limits {
 
 // ---- the records of a table
 
-// The chain from its first record on that is not below the index.
+// The chain from its first record on that is not below the index. `skip_while` would hand that record out and keep it from the next search.
 fn skip_below(mut stations: Chain<'_>, index: u32) -> Chain<'_>
     ensures { records_left result ≡ drop_below index (records_left stations.entry) }
 {
