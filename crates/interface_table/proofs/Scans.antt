@@ -1,27 +1,27 @@
 -- What the loops go along: one entry more, and the end.
 -- Assumes nothing.
 use mathlib.Core.Path.{◌≡◌, refl, ◌∙◌}
-use mathlib.Core.Bool.{true, cond, ◌&&◌}
+use mathlib.Core.Bool.{Bool, true, false, cond, not, ◌&&◌}
 use mathlib.Core.List.{List, [], ◌∷◌}
-use mathlib.Core.Logic.{◌⊎◌, inl, inr}
-use Prim.Native.Nat.{ℕ, ◌+◌, ◌≤◌, ◌<◌}
+use Prim.Native.Nat.{ℕ, suc, ◌+◌, ◌≤◌, ◌<◌}
 use native.Mathlib.Numerals.{add-one}
 use native.Mathlib.Omega.{arith}
-use borrow.Author.Tests.{eq-eqb, ne_eqb}
-use lib.Dec.{eqb, ltb}
+use lib.Dec.{eqb, ltb, leb-suc-suc, leb-zero}
 use lib.ListN.{length, get_or, take, drop, drop_of_length-le}
 use lib.Seq.{drop-cons}
-use Rattle.std.specs.Prelude.{Some, None}
+use Rattle.std.specs.Prelude.{Option, Some, None, nat_lt}
+use Rattle.std.specs.Option.{option_and_then}
+use Rattle.std.specs.List.{slice_get, position, position_or_len}
 use Rattle.interface_table.specs.Table.{ids_ascending, states_sound, state_of}
 
 -- ---- each number is above the one before it, in what is left
 
-pub pair_more : (ids : List ℕ) {size : ℕ} {pair left : List ℕ} → size ≡ 2 → size ≤ length ids → pair ≡ take size ids → left ≡ drop 1 ids
-    → ids_ascending ids ≡ (ltb (get_or pair 0 0) (get_or pair 1 0) && ids_ascending left)
+pub pair_more : (ids : List ℕ) → 2 ≤ length ids
+    → ids_ascending ids ≡ (ltb (get_or (take 2 ids) 0 0) (get_or (take 2 ids) 1 0) && ids_ascending (drop 1 ids))
 unfolding ids_ascending
-pair_more [] e h p q = absurd (omega arith)
-pair_more (id ∷ []) e h p q = absurd (omega arith)
-pair_more (id ∷ next ∷ ids) e h p q = rw (p, q, e)
+pair_more [] h = absurd (omega arith)
+pair_more (id ∷ []) h = absurd (omega arith)
+pair_more (id ∷ next ∷ ids) h = refl
 
 -- the last number has none after it
 pub pairs_end : (ids : List ℕ) → length ids < 2 → ids_ascending ids ≡ true
@@ -41,25 +41,30 @@ module _ (states : List ℕ) (i : ℕ) where
   unfolding states_sound
   states_end h = rw (drop_of_length-le states h)
 
--- ---- the first entry with the number wanted, in what is left
+-- ---- the first entry with the number wanted, by its place
 
-module _ {ids states : List ℕ} (wanted : ℕ) where
-  entry_more : {id state : ℕ} {ids_left states_left : List ℕ} → (ids ≡ id ∷ ids_left) × (states ≡ state ∷ states_left)
-      → state_of ids states wanted ≡ cond (eqb id wanted) (Some state) (state_of ids_left states_left wanted)
-  unfolding state_of
-  entry_more e = rw (e.0, e.1)
-
-  pub entry_here : {id state : ℕ} {ids_left states_left : List ℕ} → (ids ≡ id ∷ ids_left) × (states ≡ state ∷ states_left)
-      → id ≡ wanted → state_of ids states wanted ≡ Some state
-  entry_here e found = entry_more e ∙ rw (eq-eqb _ _ found)
-
-  pub entry_later : {id state : ℕ} {ids_left states_left : List ℕ} → (ids ≡ id ∷ ids_left) × (states ≡ state ∷ states_left)
-      → (id ≡ wanted → ⊥) → state_of ids states wanted ≡ state_of ids_left states_left wanted
-  entry_later e passed = entry_more e ∙ rw (ne_eqb _ _ passed)
-
-pub entry_nowhere : (ids states : List ℕ) (wanted : ℕ) → (ids ≡ []) ⊎ (states ≡ []) → state_of ids states wanted ≡ None
+pub state_by_place : (ids states : List ℕ) (wanted : ℕ)
+    → state_of ids states wanted ≡ option_and_then (slice_get states) (position (λ id. eqb id wanted) ids)
 unfolding state_of
-entry_nowhere [] states wanted e = refl
-entry_nowhere (id ∷ ids) [] wanted e = refl
-entry_nowhere (id ∷ ids) (state ∷ states) wanted (inl e) = absurd cc
-entry_nowhere (id ∷ ids) (state ∷ states) wanted (inr e) = absurd cc
+state_by_place [] states wanted = refl
+state_by_place (id ∷ ids) [] wanted = none (position (λ id. eqb id wanted) (id ∷ ids))
+  where
+    none : (at : Option ℕ) → None ≡ option_and_then (slice_get {X = ℕ} []) at
+    none None = refl
+    none (Some k) = refl
+state_by_place (id ∷ ids) (state ∷ states) wanted =
+    by (eqb id wanted) (position_or_len (λ id. eqb id wanted) ids) (state_by_place ids states wanted)
+  where
+    later : (listed : Bool) (k : ℕ)
+        → option_and_then (slice_get states) (cond listed (Some k) None) ≡ option_and_then (slice_get (state ∷ states)) (cond listed (Some (suc k)) None)
+    later true k = refl
+    later false k = refl
+
+    by : (here : Bool) (k : ℕ) → state_of ids states wanted ≡ option_and_then (slice_get states) (cond (nat_lt k (length ids)) (Some k) None)
+        → cond here (Some state) (state_of ids states wanted)
+        ≡ option_and_then (slice_get (state ∷ states))
+        (cond (nat_lt (cond (not here) (1 + k) 0) (suc (length ids))) (Some (cond (not here) (1 + k) 0)) None)
+    by true k e = rw (leb-suc-suc 0 (length ids), leb-zero (length ids))
+    by false k e =
+        let next : 1 + k ≡ suc k = omega arith in
+        rw (next, leb-suc-suc (suc k) (length ids)) (e ∙ later (nat_lt k (length ids)) k)

@@ -1,16 +1,27 @@
+use borrow.Author.Rules.{rules}
+use borrow.Author.Tests.{tests}
+use native.Mathlib.Omega.{arith}
 use mathlib.Core.Path.{sym, ◌∙◌}
-use Rattle.std.proofs.lemmas.Slice.Zip.{Zip-more, either_empty_from_Zip}
-use Rattle.interface_table.proofs.Scans.{entry_here, entry_later, entry_nowhere}
+use Prim.Native.Nat.{ℕ}
+use lib.Dec.{eqb}
+use Rattle.std.proofs.lemmas.Grind.{common_steps}
+use Rattle.std.proofs.lemmas.Iterator.{YieldsList-from_slice}
+use Rattle.std.proofs.lemmas.Iterator.Search.{position_from_yields_List}
+use Rattle.std.proofs.lemmas.Option.{slice_get_cases}
+use Rattle.interface_table.proofs.Scans.{state_by_place}
 use Rattle.interface_table.proofs.InterfaceTable.lookup.Goals as goal
 
-pub returns-then-listed-id : goal.returns-then-listed-id
-returns-then-listed-id c =
-    sym (c.loop-listed.invariant ∙ entry_here _ (Zip-more c.loop-listed.listed-iterator c.next.new.self _ _ c.in-Some.is c.next.ensures.steps) c.if-listed-id.true)
-
-pub loop-listed-preserved : goal.loop-listed-preserved
-loop-listed-preserved c =
-    c.loop-listed.invariant ∙ entry_later _ (Zip-more c.loop-listed.listed-iterator c.next.new.self _ _ c.in-Some.is c.next.ensures.steps) c.if-listed-id.false
+pub returns-in_err-entry : goal.returns-in_err-entry
+returns-in_err-entry c =
+    let table = c.args.self in
+    let place = position_from_yields_List (λ (listed : ℕ). eqb listed c.args.id) _ _ c.position.result c.position.ensures.ran
+    (YieldsList-from_slice table.ids.now cc) (λ x b q k. search (rules, tests)) in
+    rw (state_by_place table.ids.now table.states.now c.args.id, sym place ∙ c.in_err-entry.was) (search rules)
 
 pub returns : goal.returns
 returns c =
-    sym (c.loop-listed.invariant ∙ entry_nowhere _ _ _ (either_empty_from_Zip c.loop-listed.listed-iterator c.next.new.self _ c.in-None.is c.next.ensures.steps))
+    let table = c.args.self in
+    let place = position_from_yields_List (λ (listed : ℕ). eqb listed c.args.id) _ _ c.position.result c.position.ensures.ran
+    (YieldsList-from_slice table.ids.now cc) (λ x b q k. search (rules, tests)) in
+    rw (state_by_place table.ids.now table.states.now c.args.id, sym place ∙ c.in_ok-entry.was)
+    (grind (arith, common_steps, slice_get_cases table.states.now c.in_ok-entry.entry))
