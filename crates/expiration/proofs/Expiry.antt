@@ -1,4 +1,4 @@
--- The least expiry, as the loops over a segment's hops and over the segments find it.
+-- The least expiry, as `min` finds it among a segment's hops and among the segments.
 -- Assumes nothing.
 use mathlib.Core.Path.{◌≡◌, refl, sym, ap, ap₂, ◌∙◌}
 use mathlib.Core.Bool.{cond}
@@ -9,18 +9,16 @@ use lib.Dec.{eqb}
 use borrow.Author.Tests.{ne_eqb}
 use lib.ListN.{length, get_or, drop}
 use lib.Seq.{get_or-take, get_or-drop}
-use Rattle.std.specs.Prelude.{Result, Ok, Err, fold, unwrap_or}
+use Rattle.std.specs.Prelude.{fold, unwrap_or}
 use Rattle.std.specs.Option.{option_map_or}
 use Rattle.std.specs.List.{range_with_len, reduce}
 use Rattle.octets.specs.Bytes.{tabulate}
 use Rattle.fields.specs.Fields.{timestamp, exp_time, expiry}
 use Rattle.fields.specs.Layout.{hop_offset}
-use Rattle.standard_path.specs.Header.{infos, info_field, hop_field, header_check}
+use Rattle.standard_path.specs.Header.{infos, info_field, hop_field}
 use Rattle.segments.specs.Segments.{hop_fields, segments, segment_count}
 use Rattle.segments.specs.declared.Segment.{Segment}
-use Rattle.expiration.specs.Expiration.{least, hop_expiry, segment_expiry, path_expiry, expiration}
-use Rattle.standard_path.proofs.HeaderAsked.{header_asked}
-use Rattle.standard_path.specs.declared.view.HeaderError.{HeaderError}
+use Rattle.expiration.specs.Expiration.{least, hop_expiry, segment_expiry, path_expiry}
 
 pub least_capped : (times : List ℕ) → least times ≤ 4294967295
 least_capped [] = omega arith
@@ -94,13 +92,3 @@ unfolding hop_expiry
 hop_time path s first count i within info-is start_is hops-are units-are =
     ap₂ expiry (start_is ∙ ap timestamp info-is)
     (units-are ∙ ap (λ (l : List ℕ). get_or l (12 * i + 1) 0) hops-are ∙ part_exp_time path first count i within)
-
--- ---- the call, by what 2, 3 and 4 come to
-
-abbrev pub after_header : ℕ → Result Unit HeaderError → Result ℕ HeaderError
-after_header time (Ok complete) = Ok time
-after_header time (Err error) = Err error
-
-pub expiration_asked : (path : List ℕ) → expiration path ≡ after_header (path_expiry path) (header_check path)
-unfolding expiration
-expiration_asked path = sym (header_asked (after_header (path_expiry path)) path)

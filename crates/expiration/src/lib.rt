@@ -41,6 +41,7 @@ fn path_expiry(path: &[u8]) -> u32
 }
 
 // When the path ends, in seconds of Unix time; or the first of 01's questions 2, 3 and 4 that is answered no.
+#[tactic(auto, using(standard_path::proofs::HeaderAsked::header_refused, standard_path::proofs::HeaderAsked::header_complete), unfolding(crate::specs::Expiration::expiration))]
 pub fn expiration(path: &[u8]) -> Result<u32, HeaderError>
     ensures { result ≡ expiration path.now }
 {
