@@ -7,13 +7,22 @@ use Prim.Native.Nat.{ℕ}
 use Rattle.std.specs.Prelude.{Ok, Err}
 use Rattle.questions.specs.Questions.{asks}
 use Rattle.answers.specs.Questions.{Questions, first_no}
-use Rattle.answers.proofs.Asked.{same_append}
+use Rattle.answers.proofs.Asked.{same_append, asks_told}
 use Rattle.answers.specs.declared.StandardRoutingError.{StandardRoutingError}
 use Rattle.edition.specs.declared.Edition.{Edition}
 use Rattle.edition.specs.declared.Edition.TheVariants.{First, Second}
 use Rattle.edition.specs.Edition.{peering_fits, peering_questions}
 use Rattle.place.specs.Place.{crosses, place_questions, way_questions, egress_place}
 use Rattle.place.specs.Inner.{onward_by, egress_place_by}
+
+-- what is asked comes to the first no, or to what comes after the last yes
+pub asked_no : {A : Type 0} (refuse : StandardRoutingError → A) (questions : Questions) (after : A) {why : StandardRoutingError}
+    → first_no questions ≡ Err why → asks refuse questions after ≡ refuse why
+asked_no refuse questions after e = rw (asks_told refuse questions after, e)
+
+pub asked_yes : {A : Type 0} (refuse : StandardRoutingError → A) (questions : Questions) (after : A) → first_no questions ≡ Ok tt
+    → asks refuse questions after ≡ after
+asked_yes refuse questions after e = rw (asks_told refuse questions after, e)
 
 -- questions that come to a place, and those that come to a refusal
 pub placed_at : {A : Type 0} (questions : Questions) (place : A) {found : A} → asks Err questions (Ok place) ≡ Ok found
