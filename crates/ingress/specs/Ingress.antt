@@ -1,6 +1,6 @@
 -- 01, 'Questions in order' and 'standard/routing.rs': the ingress half, its answer and every byte that it leaves.
 -- Assumes nothing.
-use Rattle.std.specs.Prelude.{ℕ, Bool, not, ◌&&◌, cond, List, eqb}
+use Rattle.std.specs.Prelude.{ℕ, Bool, not, ◌&&◌, cond, List, eqb, Ok, Err}
 use Rattle.fields.specs.Fields.{cons_dir, travel_ingress, travel_egress, travel_ingress_alert}
 use Rattle.questions.specs.Questions.{asks}
 use Rattle.validator.specs.Check.{MacFunction}
@@ -8,8 +8,9 @@ use Rattle.validator.specs.declared.StandardValidator.{StandardValidator}
 use Rattle.answers.specs.declared.LocalAsRoutingAction.TheVariants.{IngressSCMPHandleRequest, ForwardLocal}
 use Rattle.answers.specs.declared.AsRoutingAction.TheVariants.{Local}
 use Rattle.answers.specs.declared.IngressNextAction.{IngressNextAction}
-use Rattle.answers.specs.declared.IngressNextAction.TheVariants.{ContinueEgress, Complete, Refused}
+use Rattle.answers.specs.declared.IngressNextAction.TheVariants.{ContinueEgress, Complete}
 use Rattle.edition.specs.declared.Edition.{Edition}
+use Rattle.answers.specs.Answer.{IngressAnswer}
 use Rattle.answers.specs.Outcome.{Outcome, leaves}
 use Rattle.place.specs.Place.{before, ingress_place, hop, info, next_hop, next_info, is_final, changes}
 use Rattle.moves.specs.Moves.{ingress_move}
@@ -39,13 +40,13 @@ ingress_action path interface change final =
 -- ---- the half as a whole
 
 -- from 9 on the bytes are moved whatever is answered
-unfoldable pub ingress : Edition → List ℕ → List ℕ → MacFunction → StandardValidator → List ℕ → Outcome IngressNextAction
+unfoldable pub ingress : Edition → List ℕ → List ℕ → MacFunction → StandardValidator → List ℕ → Outcome IngressAnswer
 ingress edition ids states mac at path =
-    asks (leaves Refused path) (before ids states path)
-    (asks (leaves Refused path) (ingress_place edition path)
+    asks (leaves Err path) (before ids states path)
+    (asks (leaves Err path) (ingress_place edition path)
     (record {
       answer =
-          asks Refused (ingress_questions edition ids states mac at path (changes edition path))
-          (ingress_action path at.current_interface_id (changes edition path) (is_final path));
+          asks Err (ingress_questions edition ids states mac at path (changes edition path))
+          (Ok (ingress_action path at.current_interface_id (changes edition path) (is_final path)));
       bytes = ingress_move edition path at.current_interface_id (changes edition path);
     }))

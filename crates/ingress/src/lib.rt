@@ -8,18 +8,19 @@
 // Licensed under the Apache License, Version 2.0: see NOTICE.
 #![tactic(auto)]
 
-ghost use Rattle.std.specs.Prelude.{◌≡◌};
+ghost use Rattle.std.specs.Prelude.{◌≡◌, Ok, Err};
 ghost use Rattle.questions.specs.Questions.{asks};
-ghost use Rattle.answers.specs.declared.IngressNextAction.TheVariants.{Refused};
 ghost use Rattle.validator.specs.Check.{key_mac};
 ghost use Rattle.moves.specs.Moves.{ingress_move};
 ghost use Rattle.checks.specs.Checks.{ingress_questions};
 ghost use Rattle.ingress.specs.Ingress.{alerts_at_ingress, leaving, ingress_action, ingress};
 
-use answers::{AsRoutingAction, IngressNextAction, LocalAsRoutingAction, Validation};
+use answers::{AsRoutingAction, IngressNextAction, LocalAsRoutingAction, StandardRoutingError};
 use edition::Edition;
 use hop_mac::ForwardingKey;
-use place::Located;
+use interface_table::InterfaceTable;
+use moves::CurrentHop;
+use place::Place;
 use standard_path::view;
 use validator::StandardValidator;
 
@@ -28,13 +29,9 @@ fn alerts_at_ingress(path: &[u8], interface: u16) -> bool
 {
     let hop = view::curr_hop_field(path);
     let info = view::curr_info_field(path);
-    if fields::ingress_scmp_alert(hop, info) {
-        if interface == 0 {
-            return false;
-        }
-        return fields::ingress_interface(hop, info) == interface;
-    }
-    false
+    fields::ingress_scmp_alert(hop, info)
+        && interface != 0
+        && fields::ingress_interface(hop, info) == interface
 }
 
 fn leaving_interface(path: &[u8], change: bool) -> u16
@@ -47,8 +44,9 @@ fn leaving_interface(path: &[u8], change: bool) -> u16
 }
 
 // What is done with the packet, once every check has passed.
-fn ingress_action(path: &[u8], interface: u16, change: bool, last: bool) -> IngressNextAction
-    ensures { result ≡ ingress_action path.now interface change last }
+#[tactic(auto, unfolding(crate::specs::Ingress::ingress_action))]
+fn ingress_action(path: &[u8], interface: u16, place: Place) -> IngressNextAction
+    ensures { result ≡ ingress_action path.now interface place.change place.last }
 {
     if alerts_at_ingress(path, interface) {
         let local = LocalAsRoutingAction::IngressSCMPHandleRequest {
@@ -56,65 +54,60 @@ fn ingress_action(path: &[u8], interface: u16, change: bool, last: bool) -> Ingr
         };
         return IngressNextAction::Complete(AsRoutingAction::Local(local));
     }
-    if last {
+    if place.last {
         return IngressNextAction::Complete(AsRoutingAction::Local(
             LocalAsRoutingAction::ForwardLocal,
         ));
     }
     IngressNextAction::ContinueEgress {
-        egress_interface_id: leaving_interface(path, change),
+        egress_interface_id: leaving_interface(path, place.change),
     }
 }
 
 // ---- the half
 
 // The answer, from the path as it came.
+#[tactic(auto, using(place::proofs::Places::asked_no, place::proofs::Places::asked_yes))]
 fn decide_ingress(
     edition: Edition,
-    ids: &[u16],
-    states: &[u8],
+    interfaces: InterfaceTable<'_>,
     forwarding_key: &ForwardingKey,
     at: StandardValidator,
     path: &[u8],
-    change: bool,
-    last: bool,
-) -> IngressNextAction
-    ensures { result ≡ asks Refused (ingress_questions edition ids.now states.now
-        (key_mac forwarding_key.now) at path.now change)
-        (ingress_action path.now at.current_interface_id change last) }
+    place: Place,
+) -> Result<IngressNextAction, StandardRoutingError>
+    ensures { result ≡ asks Err
+        (ingress_questions edition interfaces.entry.ids.now interfaces.entry.states.now
+        (key_mac forwarding_key.now) at path.now place.change)
+        (Ok (ingress_action path.now at.current_interface_id place.change place.last)) }
 {
-    let action = ingress_action(path, at.current_interface_id, change, last);
-    match checks::validate_ingress(edition, ids, states, forwarding_key, at, path, change) {
-        Validation::Valid => action,
-        Validation::Invalid(why) => IngressNextAction::Refused(why),
-    }
+    let action = ingress_action(path, at.current_interface_id, place);
+    checks::validate_ingress(edition, interfaces, forwarding_key, at, path, place.change)?;
+    Ok(action)
 }
 
 fn ingress_here(
     edition: Edition,
-    ids: &[u16],
-    states: &[u8],
+    interfaces: InterfaceTable<'_>,
     forwarding_key: &ForwardingKey,
     at: StandardValidator,
     path: &mut [u8],
-    change: bool,
-    last: bool,
-) -> IngressNextAction
-    ensures value { result ≡ asks Refused (ingress_questions edition ids.now states.now
-        (key_mac forwarding_key.now) at path.old change)
-        (ingress_action path.old at.current_interface_id change last) }
-    ensures path_after { path.new ≡ ingress_move edition path.old at.current_interface_id change }
+    place: Place,
+) -> Result<IngressNextAction, StandardRoutingError>
+    ensures value { result ≡ asks Err
+        (ingress_questions edition interfaces.entry.ids.now interfaces.entry.states.now
+        (key_mac forwarding_key.now) at path.old place.change)
+        (Ok (ingress_action path.old at.current_interface_id place.change place.last)) }
+    ensures path_after { path.new ≡ ingress_move edition path.old at.current_interface_id place.change }
 {
-    let hop_at = view::hop_field_offset(path, view::curr_hop_field_idx(path));
-    let cons_dir = fields::cons_dir(view::curr_info_field(path));
-    let answer = decide_ingress(edition, ids, states, forwarding_key, at, path, change, last);
+    let current = CurrentHop::of(path);
+    let answer = decide_ingress(edition, interfaces, forwarding_key, at, path, place);
     moves::move_ingress(
         edition,
         path,
         at.current_interface_id,
-        change,
-        hop_at,
-        cons_dir,
+        place.change,
+        current,
     );
     answer
 }
@@ -122,31 +115,17 @@ fn ingress_here(
 // The ingress half, with a validator.
 pub fn advance_ingress_with_validator(
     edition: Edition,
-    ids: &[u16],
-    states: &[u8],
+    interfaces: InterfaceTable<'_>,
     forwarding_key: &ForwardingKey,
     at: StandardValidator,
     path: &mut [u8],
-) -> IngressNextAction
-    ensures value { result ≡ (ingress edition ids.now states.now
+) -> Result<IngressNextAction, StandardRoutingError>
+    ensures value { result ≡ (ingress edition interfaces.entry.ids.now interfaces.entry.states.now
         (key_mac forwarding_key.now) at path.old).answer }
-    ensures path_after { path.new ≡ (ingress edition ids.now states.now
+    ensures path_after { path.new ≡ (ingress edition interfaces.entry.ids.now interfaces.entry.states.now
         (key_mac forwarding_key.now) at path.old).bytes }
 {
-    if let Validation::Invalid(why) = place::check_before(ids, states, path) {
-        return IngressNextAction::Refused(why);
-    }
-    match place::locate_ingress(edition, path) {
-        Located::Nowhere(why) => IngressNextAction::Refused(why),
-        Located::Here { change, last } => ingress_here(
-            edition,
-            ids,
-            states,
-            forwarding_key,
-            at,
-            path,
-            change,
-            last,
-        ),
-    }
+    place::check_before(interfaces, path)?;
+    let place = place::locate_ingress(edition, path)?;
+    ingress_here(edition, interfaces, forwarding_key, at, path, place)
 }

@@ -1,47 +1,43 @@
-use mathlib.Core.Path.{refl, sym, ◌∙◌}
-use Rattle.answers.specs.Questions.{first_no}
+use borrow.Author.Rules.{rules}
+use mathlib.Core.Path.{refl, ap, sym, ◌∙◌}
 use Rattle.validator.specs.Check.{key_mac}
-use Rattle.place.proofs.Places.{located_here, located_nowhere}
-use Rattle.place.specs.Place.{ingress_place, changes, is_final}
+use Rattle.place.proofs.Places.{placed_at, placed_nowhere}
+use Rattle.place.specs.Place.{ingress_place}
+use Rattle.place.specs.Inner.{stands}
+use Rattle.place.specs.declared.Place.{Place}
 use Rattle.ingress.proofs.Told.{ingress_told}
 use Rattle.ingress.proofs.advance_ingress_with_validator.Goals as goal
 
-pub returns-in-Invalid : goal.returns-in-Invalid
-returns-in-Invalid c =
+pub returns-in_err-check_before : goal.returns-in_err-check_before
+returns-in_err-check_before c =
     let args = c.args in
-    let check_before = c.check_before in
     rw (
-      ingress_told args.edition args.ids.now args.states.now (key_mac args.forwarding_key.now) args.at args.path.now,
-      ← check_before.ensures,
-      c.in-Invalid.is,
-    ) (record { value = refl; path_after = refl })
+      ingress_told args.edition args.interfaces.ids.now args.interfaces.states.now (key_mac args.forwarding_key.now) args.at args.path.now,
+      ← c.check_before.ensures,
+      c.in_err-check_before.was,
+    ) (record { value = search rules; path_after = refl })
 
-pub returns-in-Nowhere : goal.returns-in-Nowhere
-returns-in-Nowhere c =
+pub returns-in_err-place : goal.returns-in_err-place
+returns-in_err-place c =
     let args = c.args in
-    let check_before = c.check_before in
-    let locate_ingress = c.locate_ingress in
     rw (
-      ingress_told args.edition args.ids.now args.states.now (key_mac args.forwarding_key.now) args.at args.path.now,
-      ← check_before.ensures,
-      c.in_default.is,
-      located_nowhere (first_no (ingress_place args.edition args.path.now)) (changes args.edition args.path.now)
-          (is_final args.path.now) (sym locate_ingress.ensures ∙ c.in-Nowhere.is),
-    ) (record { value = refl; path_after = refl })
+      ingress_told args.edition args.interfaces.ids.now args.interfaces.states.now (key_mac args.forwarding_key.now) args.at args.path.now,
+      ← c.check_before.ensures,
+      c.in_ok-check_before.was,
+      placed_nowhere (ingress_place args.edition args.path.now) (stands args.edition args.path.now)
+          (sym c.locate_ingress.ensures ∙ c.in_err-place.was),
+    ) (record { value = search rules; path_after = refl })
 
-pub returns-in-Here : goal.returns-in-Here
-returns-in-Here c =
+pub returns : goal.returns
+returns c =
     let args = c.args in
-    let check_before = c.check_before in
-    let locate_ingress = c.locate_ingress in
-    let ingress_here = c.ingress_here in
-    let s = located_here (first_no (ingress_place args.edition args.path.now)) (changes args.edition args.path.now)
-    (is_final args.path.now) (sym locate_ingress.ensures ∙ c.in-Here.is) in
+    let at = placed_at (ingress_place args.edition args.path.now) (stands args.edition args.path.now)
+    (sym c.locate_ingress.ensures ∙ c.in_ok-place.was) in
     rw (
-      ingress_told args.edition args.ids.now args.states.now (key_mac args.forwarding_key.now) args.at args.path.now,
-      ← check_before.ensures,
-      c.in_default.is,
-      s.valid,
-      s.changed,
-      s.ended,
-    ) (record { value = ingress_here.ensures.value; path_after = ingress_here.ensures.path_after })
+      ingress_told args.edition args.interfaces.ids.now args.interfaces.states.now (key_mac args.forwarding_key.now) args.at args.path.now,
+      ← c.check_before.ensures,
+      c.in_ok-check_before.was,
+      at.0,
+      ap (λ (place : Place). place.change) at.1,
+      ap (λ (place : Place). place.last) at.1,
+    ) (record { value = c.ingress_here.ensures.value; path_after = c.ingress_here.ensures.path_after })

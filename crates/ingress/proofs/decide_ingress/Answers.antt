@@ -1,11 +1,10 @@
-use Rattle.answers.proofs.Asked.{asks_told}
-use Rattle.answers.specs.declared.IngressNextAction.TheVariants.{Refused}
+use borrow.Author.Rules.{rules}
+use mathlib.Core.Path.{◌≡◌, sym, ◌∙◌}
+use Rattle.std.specs.Prelude.{Err}
+use Rattle.place.proofs.Places.{asked_no}
 use Rattle.ingress.proofs.decide_ingress.Goals as goal
 
-pub returns-in-Valid : goal.returns-in-Valid
-returns-in-Valid c =
-    let ingress_action = c.ingress_action-action in
-    rw (asks_told Refused, ← c.validate_ingress.ensures, c.in-Valid.is) ingress_action.ensures
-
-pub returns-in-Invalid : goal.returns-in-Invalid
-returns-in-Invalid c = rw (asks_told Refused, ← c.validate_ingress.ensures, c.in-Invalid.is)
+pub returns-in_err-validate_ingress : goal.returns-in_err-validate_ingress
+returns-in_err-validate_ingress c =
+    let no : c.from_residual.result ≡ Err c.in_err-validate_ingress.field-0.0 = search rules in
+    no ∙ sym (asked_no Err _ _ (sym c.validate_ingress.ensures ∙ c.in_err-validate_ingress.was))
