@@ -8,48 +8,49 @@
 // Licensed under the Apache License, Version 2.0: see NOTICE.
 #![tactic(auto)]
 
-ghost use Rattle.std.specs.Prelude.{◌≡◌};
+ghost use Rattle.std.specs.Prelude.{◌≡◌, Ok, Err};
 ghost use Rattle.questions.specs.Questions.{asks};
-ghost use Rattle.answers.specs.declared.StepAnswer.TheVariants.{Refused};
 ghost use Rattle.validator.specs.Check.{key_mac};
 ghost use Rattle.moves.specs.Moves.{egress_move};
 ghost use Rattle.checks.specs.Checks.{egress_questions};
 ghost use Rattle.egress.specs.Egress.{leaving_action, egress_action, egress};
 
-use answers::{AsRoutingAction, LocalAsRoutingAction, StepAnswer, Validation};
+use answers::{AsRoutingAction, LocalAsRoutingAction, StandardRoutingError};
 use edition::Edition;
 use hop_mac::ForwardingKey;
+use interface_table::InterfaceTable;
+use moves::CurrentHop;
 use standard_path::view;
 use validator::StandardValidator;
 
-fn egress_action(hop: &[u8], info: &[u8]) -> StepAnswer
+#[tactic(auto, unfolding(crate::specs::Egress::leaving_action))]
+fn egress_action(hop: &[u8], info: &[u8]) -> AsRoutingAction
     ensures { result ≡ leaving_action hop.now info.now }
 {
     let out = fields::egress_interface(hop, info);
-    if fields::egress_scmp_alert(hop, info) {
-        if out != 0 {
-            let local = LocalAsRoutingAction::EgressSCMPHandleRequest { interface_id: out };
-            return StepAnswer::Action(AsRoutingAction::Local(local));
-        }
-        return StepAnswer::Action(AsRoutingAction::ForwardNextHop {
-            egress_interface_id: out,
+    if fields::egress_scmp_alert(hop, info) && out != 0 {
+        return AsRoutingAction::Local(LocalAsRoutingAction::EgressSCMPHandleRequest {
+            interface_id: out,
         });
     }
-    StepAnswer::Action(AsRoutingAction::ForwardNextHop {
+    AsRoutingAction::ForwardNextHop {
         egress_interface_id: out,
-    })
+    }
 }
 
 // The answer, from the path as it came.
-fn decide_egress(forwarding_key: &ForwardingKey, at: StandardValidator, path: &[u8]) -> StepAnswer
-    ensures { result ≡ asks Refused (egress_questions (key_mac forwarding_key.now) at path.now)
-        (egress_action path.now) }
+#[tactic(auto, using(place::proofs::Places::asked_no, place::proofs::Places::asked_yes))]
+fn decide_egress(
+    forwarding_key: &ForwardingKey,
+    at: StandardValidator,
+    path: &[u8],
+) -> Result<AsRoutingAction, StandardRoutingError>
+    ensures { result ≡ asks Err (egress_questions (key_mac forwarding_key.now) at path.now)
+        (Ok (egress_action path.now)) }
 {
     let action = egress_action(view::curr_hop_field(path), view::curr_info_field(path));
-    match checks::validate_egress(forwarding_key, at, path) {
-        Validation::Valid => action,
-        Validation::Invalid(why) => StepAnswer::Refused(why),
-    }
+    checks::validate_egress(forwarding_key, at, path)?;
+    Ok(action)
 }
 
 fn egress_here(
@@ -57,53 +58,45 @@ fn egress_here(
     forwarding_key: &ForwardingKey,
     at: StandardValidator,
     path: &mut [u8],
-) -> StepAnswer
-    ensures value { result ≡ asks Refused (egress_questions (key_mac forwarding_key.now) at path.old)
-        (egress_action path.old) }
+) -> Result<AsRoutingAction, StandardRoutingError>
+    ensures value { result ≡ asks Err (egress_questions (key_mac forwarding_key.now) at path.old)
+        (Ok (egress_action path.old)) }
     ensures path_after { path.new ≡ egress_move edition path.old }
 {
-    let hop_at = view::hop_field_offset(path, view::curr_hop_field_idx(path));
-    let cons_dir = fields::cons_dir(view::curr_info_field(path));
+    let current = CurrentHop::of(path);
     let answer = decide_egress(forwarding_key, at, path);
-    moves::move_egress(edition, path, hop_at, cons_dir);
+    moves::move_egress(edition, path, current);
     answer
 }
 
 // The egress half, with a validator.
 pub fn advance_egress_with_validator(
     edition: Edition,
-    ids: &[u16],
-    states: &[u8],
+    interfaces: InterfaceTable<'_>,
     forwarding_key: &ForwardingKey,
     at: StandardValidator,
     path: &mut [u8],
-) -> StepAnswer
-    ensures value { result ≡ (egress edition ids.now states.now
+) -> Result<AsRoutingAction, StandardRoutingError>
+    ensures value { result ≡ (egress edition interfaces.entry.ids.now interfaces.entry.states.now
         (key_mac forwarding_key.now) at path.old).answer }
-    ensures path_after { path.new ≡ (egress edition ids.now states.now
+    ensures path_after { path.new ≡ (egress edition interfaces.entry.ids.now interfaces.entry.states.now
         (key_mac forwarding_key.now) at path.old).bytes }
 {
-    if let Validation::Invalid(why) = place::check_before(ids, states, path) {
-        return StepAnswer::Refused(why);
-    }
+    place::check_before(interfaces, path)?;
     let fits = edition::peering_fits(edition, path);
     let crossing = place::crosses(edition, path);
-    if let Validation::Invalid(why) = place::locate_egress(path, fits, crossing) {
-        return StepAnswer::Refused(why);
-    }
+    place::locate_egress(path, fits, crossing)?;
     egress_here(edition, forwarding_key, at, path)
 }
 
 // The egress half inside the whole step, where the path is known to stand. An ingress that went on has had a yes to 1 to 4 and to 10 to 12
 // of this hop, and 19 is asked of a call alone.
-pub fn egress_inside(edition: Edition, path: &mut [u8]) -> StepAnswer
+pub fn egress_inside(edition: Edition, path: &mut [u8]) -> AsRoutingAction
     ensures value { result ≡ egress_action path.old }
     ensures path_after { path.new ≡ egress_move edition path.old }
 {
-    let hop_at = view::hop_field_offset(path, view::curr_hop_field_idx(path));
-    let info = view::curr_info_field(path);
-    let cons_dir = fields::cons_dir(info);
-    let answer = egress_action(view::curr_hop_field(path), info);
-    moves::move_egress(edition, path, hop_at, cons_dir);
-    answer
+    let current = CurrentHop::of(path);
+    let action = egress_action(view::curr_hop_field(path), view::curr_info_field(path));
+    moves::move_egress(edition, path, current);
+    action
 }

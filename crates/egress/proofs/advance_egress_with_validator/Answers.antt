@@ -1,48 +1,39 @@
+use borrow.Author.Rules.{rules}
 use mathlib.Core.Path.{refl, ◌∙◌}
 use Rattle.validator.specs.Check.{key_mac}
 use Rattle.place.proofs.Places.{placed_by}
 use Rattle.egress.proofs.Told.{egress_told}
 use Rattle.egress.proofs.advance_egress_with_validator.Goals as goal
 
-pub returns-in-Invalid : goal.returns-in-Invalid
-returns-in-Invalid c =
+pub returns-in_err-check_before : goal.returns-in_err-check_before
+returns-in_err-check_before c =
     let args = c.args in
-    let check_before = c.check_before in
     rw (
-      egress_told args.edition args.ids.now args.states.now (key_mac args.forwarding_key.now) args.at args.path.now,
-      ← check_before.ensures,
-      c.in-Invalid.is,
-    ) (record { value = refl; path_after = refl })
+      egress_told args.edition args.interfaces.ids.now args.interfaces.states.now (key_mac args.forwarding_key.now) args.at args.path.now,
+      ← c.check_before.ensures,
+      c.in_err-check_before.was,
+    ) (record { value = search rules; path_after = refl })
 
-pub returns-in-Invalid-locate_egress : goal.returns-in-Invalid-locate_egress
-returns-in-Invalid-locate_egress c =
+pub returns-in_err-locate_egress : goal.returns-in_err-locate_egress
+returns-in_err-locate_egress c =
     let args = c.args in
-    let check_before = c.check_before in
-    let peering_fits = c.peering_fits-fits in
-    let crosses = c.crosses-crossing in
-    let locate_egress = c.locate_egress in
-    let place = locate_egress.ensures ∙ placed_by args.edition args.path.now peering_fits.ensures crosses.ensures in
+    let place = c.locate_egress.ensures ∙ placed_by args.edition args.path.now c.peering_fits-fits.ensures c.crosses-crossing.ensures in
     rw (
-      egress_told args.edition args.ids.now args.states.now (key_mac args.forwarding_key.now) args.at args.path.now,
-      ← check_before.ensures,
-      c.in_default.is,
+      egress_told args.edition args.interfaces.ids.now args.interfaces.states.now (key_mac args.forwarding_key.now) args.at args.path.now,
+      ← c.check_before.ensures,
+      c.in_ok-check_before.was,
       ← place,
-      c.in-Invalid-locate_egress.is,
-    ) (record { value = refl; path_after = refl })
+      c.in_err-locate_egress.was,
+    ) (record { value = search rules; path_after = refl })
 
 pub returns : goal.returns
 returns c =
     let args = c.args in
-    let check_before = c.check_before in
-    let peering_fits = c.peering_fits-fits in
-    let crosses = c.crosses-crossing in
-    let locate_egress = c.locate_egress in
-    let egress_here = c.egress_here in
-    let place = locate_egress.ensures ∙ placed_by args.edition args.path.now peering_fits.ensures crosses.ensures in
+    let place = c.locate_egress.ensures ∙ placed_by args.edition args.path.now c.peering_fits-fits.ensures c.crosses-crossing.ensures in
     rw (
-      egress_told args.edition args.ids.now args.states.now (key_mac args.forwarding_key.now) args.at args.path.now,
-      ← check_before.ensures,
-      c.in_default.is,
+      egress_told args.edition args.interfaces.ids.now args.interfaces.states.now (key_mac args.forwarding_key.now) args.at args.path.now,
+      ← c.check_before.ensures,
+      c.in_ok-check_before.was,
       ← place,
-      c.in_default-locate_egress.is,
-    ) (record { value = egress_here.ensures.value; path_after = egress_here.ensures.path_after })
+      c.in_ok-locate_egress.was,
+    ) (record { value = c.egress_here.ensures.value; path_after = c.egress_here.ensures.path_after })

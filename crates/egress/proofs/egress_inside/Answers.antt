@@ -2,18 +2,6 @@ use mathlib.Core.Path.{◌∙◌}
 use Rattle.moves.proofs.Lent.{egress_move_lent}
 use Rattle.egress.proofs.egress_inside.Goals as goal
 
-pub returns : goal.returns
-returns c =
-    let args = c.args in
-    let curr_hop_field_idx = c.curr_hop_field_idx in
-    let hop_field_offset = c.hop_field_offset-hop_at in
-    let curr_info_field = c.curr_info_field-info in
-    let cons_dir = c.cons_dir-cons_dir in
-    let curr_hop_field = c.curr_hop_field in
-    let egress_action = c.egress_action-answer in
-    record {
-      value = rw (curr_hop_field.ensures, curr_info_field.ensures) at egress_action.ensures;
-      path_after = c.move_egress.ensures
-          ∙ egress_move_lent args.edition args.path.now (rw curr_hop_field_idx.ensures at hop_field_offset.ensures) (rw
-          curr_info_field.ensures at cons_dir.ensures);
-    }
+pub returns-clause-path_after : goal.returns-clause-path_after
+returns-clause-path_after c =
+    c.move_egress.ensures ∙ egress_move_lent c.args.edition c.args.path.now c.of-current.ensures.at c.of-current.ensures.cons_dir
