@@ -9,6 +9,7 @@ use native.Mathlib.Omega.{arith}
 use borrow.Author.Tests.{ltb-true, leb-true, leb-false, eqb-true, lt-ltb, le-ltb, eq-eqb}
 use lib.Dec.{eqb, ltb, leb}
 use lib.ListN.{length}
+use Rattle.std.specs.Prelude.{Result, Ok, Err}
 use Rattle.questions.specs.Questions.{asks}
 use Rattle.standard_path.specs.Meta.{curr_inf, curr_hf, seg0_len, seg1_len, set_curr_hf, set_curr_inf}
 use Rattle.fields.specs.Fields.{cons_dir, seg_id, travel_egress}
@@ -18,15 +19,13 @@ use Rattle.standard_path.proofs.IndexSet.{set_hf_hop, set_hf_info, set_inf_hop, 
 use Rattle.answers.specs.Questions.{Questions, first_no}
 use Rattle.validator.specs.Check.{MacFunction, hop_questions, change_questions, at_ingress, at_egress}
 use Rattle.validator.specs.declared.StandardValidator.{StandardValidator}
+use Rattle.answers.specs.declared.StandardRoutingError.{StandardRoutingError}
 use Rattle.answers.specs.declared.StandardRoutingError.TheVariants.{AdvanceFailed}
 use Rattle.answers.specs.declared.AdvanceError.TheVariants.{InvalidSegmentIndex}
 use Rattle.answers.specs.declared.LocalAsRoutingAction.TheVariants.{IngressSCMPHandleRequest, ForwardLocal}
 use Rattle.answers.specs.declared.AsRoutingAction.TheVariants.{Local}
-use Rattle.answers.specs.declared.Validation.{Validation}
-use Rattle.answers.specs.declared.Validation.TheVariants.{Valid, Invalid}
 use Rattle.answers.specs.declared.IngressNextAction.{IngressNextAction}
-use Rattle.answers.specs.declared.IngressNextAction.TheVariants.{ContinueEgress, Complete, Refused as Stopped}
-use Rattle.answers.specs.declared.StepAnswer.TheVariants.{Refused}
+use Rattle.answers.specs.declared.IngressNextAction.TheVariants.{ContinueEgress, Complete}
 use Rattle.answers.proofs.Asked.{first_yes, rest_yes, both_yes, none_asked, goes_on_lem, last_yes, told, asks_told}
 use Rattle.edition.specs.declared.Edition.{Edition}
 use Rattle.answers.specs.Outcome.{leaves}
@@ -48,13 +47,13 @@ use Rattle.moves.proofs.Touched.{SameHop, same_hop, SameInfo, same_info, FieldsM
 
 pub record WentOn (edition : Edition) (ids states : List ℕ) (mac : MacFunction) (interface time : ℕ) (unchecked : Bool) (path : List ℕ)
     (out : ℕ) : Type 0 where
-  pub asked : first_no (before ids states path) ≡ Valid
-  pub placed : first_no (ingress_place edition path) ≡ Valid
-  pub checked : first_no (ingress_questions edition ids states mac (at_ingress interface time unchecked) path (changes edition path)) ≡ Valid
+  pub asked : first_no (before ids states path) ≡ Ok tt
+  pub placed : first_no (ingress_place edition path) ≡ Ok tt
+  pub checked : first_no (ingress_questions edition ids states mac (at_ingress interface time unchecked) path (changes edition path)) ≡ Ok tt
   pub going : ingress_action path interface (changes edition path) (is_final path) ≡ ContinueEgress out
 
 pub went_on : (edition : Edition) (ids states : List ℕ) (mac : MacFunction) (interface time : ℕ) (unchecked : Bool) (path : List ℕ) (out : ℕ)
-    → (ingress edition ids states mac (at_ingress interface time unchecked) path).answer ≡ ContinueEgress out
+    → (ingress edition ids states mac (at_ingress interface time unchecked) path).answer ≡ Ok (ContinueEgress out)
     → WentOn edition ids states mac interface time unchecked path out
 went_on edition ids states mac interface time unchecked path out e =
     go (first_no (before ids states path)) refl (first_no (ingress_place edition path)) refl
@@ -67,17 +66,17 @@ went_on edition ids states mac interface time unchecked path out e =
     action : IngressNextAction
     action = ingress_action path interface (changes edition path) (is_final path)
 
-    go : (first : Validation) → first_no (before ids states path) ≡ first
-        → (place : Validation) → first_no (ingress_place edition path) ≡ place
-        → (checks : Validation) → first_no (ingress_questions edition ids states mac at path (changes edition path)) ≡ checks
-        → (told (leaves Stopped path) first
-        (told (leaves Stopped path) place (record { answer = told Stopped checks action; bytes = ingress_move edition path interface (changes edition path) }))
+    go : (first : Result Unit StandardRoutingError) → first_no (before ids states path) ≡ first
+        → (place : Result Unit StandardRoutingError) → first_no (ingress_place edition path) ≡ place
+        → (checks : Result Unit StandardRoutingError) → first_no (ingress_questions edition ids states mac at path (changes edition path)) ≡ checks
+        → (told (leaves Err path) first
+        (told (leaves Err path) place (record { answer = told Err checks (Ok action); bytes = ingress_move edition path interface (changes edition path) }))
         ).answer
-        ≡ ContinueEgress out → WentOn edition ids states mac interface time unchecked path out
-    go (Invalid why) a place b checks c q = let z : ◌≡◌ {A = ℕ} 0 1 = cc in absurd (omega arith)
-    go Valid a (Invalid why) b checks c q = let z : ◌≡◌ {A = ℕ} 0 1 = cc in absurd (omega arith)
-    go Valid a Valid b (Invalid why) c q = let z : ◌≡◌ {A = ℕ} 0 1 = cc in absurd (omega arith)
-    go Valid a Valid b Valid c q = record { asked = a; placed = b; checked = c; going = q }
+        ≡ Ok (ContinueEgress out) → WentOn edition ids states mac interface time unchecked path out
+    go (Err why) a place b checks c q = absurd cc
+    go (Ok _) a (Err why) b checks c q = absurd cc
+    go (Ok _) a (Ok _) b (Err why) c q = absurd cc
+    go (Ok _) a (Ok _) b (Ok _) c q = record { asked = a; placed = b; checked = c; going = cc }
 
 -- ---- a hop that ingress let pass is let pass by egress, if what is read of it stays
 
@@ -89,8 +88,8 @@ same_egress false same = same.into
 module _ (mac : MacFunction) (interface time : ℕ) (unchecked : Bool) {hop1 hop2 info1 info2 : List ℕ} where
   passes_again : SameHop hop1 hop2 → SameInfo info1 info2 → (index again : ℕ) {value out : ℕ} → seg_id info2 ≡ value
       → travel_egress (cons_dir info1) hop1 ≡ out
-      → first_no (hop_questions mac (at_ingress interface time unchecked) index hop1 info1 value) ≡ Valid
-      → first_no (hop_questions mac (at_egress out time unchecked) again hop2 info2 (seg_id info2)) ≡ Valid
+      → first_no (hop_questions mac (at_ingress interface time unchecked) index hop1 info1 value) ≡ Ok tt
+      → first_no (hop_questions mac (at_egress out time unchecked) again hop2 info2 (seg_id info2)) ≡ Ok tt
   passes_again hop_same info_same index again {value} {out} seg leaves e =
       let stamp = rest_yes _ _ _ e in
       let life = rest_yes _ _ _ stamp in
@@ -113,10 +112,10 @@ pub record Standing (edition : Edition) (path : List ℕ) : Type 0 where
   pub here : segment path ≡ curr_inf path
   pub inside : curr_inf path < infos path
   pub next : changes edition path ≡ true → curr_inf path + 1 < infos path
-  pub fits : first_no (peering_questions edition path) ≡ Valid
+  pub fits : first_no (peering_questions edition path) ≡ Ok tt
 
-pub stands : (edition : Edition) (ids states path : List ℕ) → first_no (before ids states path) ≡ Valid
-    → first_no (ingress_place edition path) ≡ Valid → Standing edition path
+pub stands : (edition : Edition) (ids states path : List ℕ) → first_no (before ids states path) ≡ Ok tt
+    → first_no (ingress_place edition path) ≡ Ok tt → Standing edition path
 stands edition ids states path a p =
     let sized = rest_yes _ _ _ (rest_yes _ _ _ a) in
     let other = rest_yes _ _ _ (rest_yes _ _ _ p) in
@@ -135,15 +134,15 @@ stands edition ids states path a p =
     }
 
 -- a segment change has a next hop
-next_hop_lem : (edition : Edition) (path : List ℕ) → changes edition path ≡ true → curr_hf path + 1 < hops path
-next_hop_lem edition path e = go (is_peering_hop edition path) (ends path) (leb (hops path) (curr_hf path + 1)) refl e
+pub next_hop_there : (edition : Edition) (path : List ℕ) → changes edition path ≡ true → curr_hf path + 1 < hops path
+next_hop_there edition path e = go (is_peering_hop edition path) (ends path) (leb (hops path) (curr_hf path + 1)) refl e
   where
     go : (peer end final : Bool) → leb (hops path) (curr_hf path + 1) ≡ final → (not peer && (end && not final)) ≡ true
         → curr_hf path + 1 < hops path
     go false true false f q = leb-false _ _ f
-    go false true true f q = let z : ◌≡◌ {A = ℕ} 0 1 = cc in absurd (omega arith)
-    go false false final f q = let z : ◌≡◌ {A = ℕ} 0 1 = cc in absurd (omega arith)
-    go true end final f q = let z : ◌≡◌ {A = ℕ} 0 1 = cc in absurd (omega arith)
+    go false true true f q = absurd cc
+    go false false final f q = absurd cc
+    go true end final f q = absurd cc
 
 -- a hop that makes no change and is not the path's last is not its segment's last either, or it is the first peering hop
 leads_on : (edition : Edition) (path : List ℕ) → is_final path ≡ false → changes edition path ≡ false
@@ -156,9 +155,9 @@ leads_on edition path onward stay = go (ends path) refl (peering_path edition pa
         → eqb (curr_hf path) (seg0_len path) ≡ second
         → (not (peers && (first || second)) && (end && true)) ≡ false → ((peers && first) || not end) ≡ true
     go false e peers p first second q stay = or-true (peers && first)
-    go true e false p first second q stay = let z : ◌≡◌ {A = ℕ} 0 1 = cc in absurd (omega arith)
+    go true e false p first second q stay = absurd cc
     go true e true p true second q stay = refl
-    go true e true p false false q stay = let z : ◌≡◌ {A = ℕ} 0 1 = cc in absurd (omega arith)
+    go true e true p false false q stay = absurd cc
     go true e true p false true q stay =
         let l = peering_lengths edition path p in
         let here = eqb-true (curr_hf path) (seg0_len path) q in
@@ -178,8 +177,8 @@ action_leaves path interface change final {out} e = go (alerts_at_ingress path i
         → cond alert (Complete (Local (IngressSCMPHandleRequest interface)))
         (cond final (Complete (Local ForwardLocal)) (ContinueEgress (leaving path change)))
         ≡ ContinueEgress out → leaving path change ≡ out
-    go true final q = let z : ◌≡◌ {A = ℕ} 0 1 = cc in absurd (omega arith)
-    go false true q = let z : ◌≡◌ {A = ℕ} 0 1 = cc in absurd (omega arith)
+    go true final q = absurd cc
+    go false true q = absurd cc
     go false false q = cc
 
 -- and so it is not the path's last hop
@@ -192,11 +191,11 @@ action_onward path interface change final {out} e = go (alerts_at_ingress path i
         → cond alert (Complete (Local (IngressSCMPHandleRequest interface)))
         (cond final (Complete (Local ForwardLocal)) (ContinueEgress (leaving path change)))
         ≡ ContinueEgress out → final ≡ false
-    go true final q = let z : ◌≡◌ {A = ℕ} 0 1 = cc in absurd (omega arith)
-    go false true q = let z : ◌≡◌ {A = ℕ} 0 1 = cc in absurd (omega arith)
+    go true final q = absurd cc
+    go false true q = absurd cc
     go false false q = refl
 
-infos_few : (path : List ℕ) → infos path ≤ 3
+pub infos_few : (path : List ℕ) → infos path ≤ 3
 unfolding infos
 infos_few path = omega arith
 
@@ -205,7 +204,7 @@ infos_few path = omega arith
 record Ready (mac : MacFunction) (out time : ℕ) (unchecked : Bool) (path after : List ℕ) : Type 0 where
   among : curr_hf after < hops path
   inside : curr_inf after < infos path
-  passes : first_no (egress_questions mac (at_egress out time unchecked) after) ≡ Valid
+  passes : first_no (egress_questions mac (at_egress out time unchecked) after) ≡ Ok tt
 
 module _ (edition : Edition) (ids states : List ℕ) (mac : MacFunction) (interface time : ℕ) (unchecked : Bool) (path : List ℕ)
     (s : Standing edition path)
@@ -213,7 +212,7 @@ module _ (edition : Edition) (ids states : List ℕ) (mac : MacFunction) (interf
   abbrev at : StandardValidator
   at = at_ingress interface time unchecked
 
-  stay_ready : {out : ℕ} → first_no (ingress_questions edition ids states mac at path false) ≡ Valid → leaving path false ≡ out
+  stay_ready : {out : ℕ} → first_no (ingress_questions edition ids states mac at path false) ≡ Ok tt → leaving path false ≡ out
       → Ready mac out time unchecked path (ingress_move edition path interface false)
   unfolding ingress_move
   stay_ready checks leaves = record {
@@ -227,13 +226,13 @@ module _ (edition : Edition) (ids states : List ℕ) (mac : MacFunction) (interf
   unfolding ingress_move header_size
   change_hf changing =
       let fields-moved = ingress_fields edition path interface in
-      let far = next_hop_lem edition path changing in
+      let far = next_hop_there edition path changing in
       let some : 0 < length fields-moved = omega (arith, s.room, fields.kept.size) in
       hf_after_inf (set_curr_hf fields-moved (curr_hf path + 1)) _
       (omega (arith, some, (set_hf_kept fields-moved (curr_hf path + 1)).size))
       ∙ hf_after_hf fields-moved _ some (omega (arith, far, s.few))
 
-  change_ready : {out : ℕ} → changes edition path ≡ true → first_no (ingress_questions edition ids states mac at path true) ≡ Valid
+  change_ready : {out : ℕ} → changes edition path ≡ true → first_no (ingress_questions edition ids states mac at path true) ≡ Ok tt
       → leaving path true ≡ out
       → Ready mac out time unchecked path (ingress_move edition path interface true)
   unfolding ingress_move header_size
@@ -242,7 +241,7 @@ module _ (edition : Edition) (ids states : List ℕ) (mac : MacFunction) (interf
       let advanced = set_curr_hf fields-moved (curr_hf path + 1) in
       let after = set_curr_inf advanced (curr_inf path + 1) in
       let next = s.next changing in
-      let far = next_hop_lem edition path changing in
+      let far = next_hop_there edition path changing in
       let some : 0 < length fields-moved = omega (arith, s.room, fields.kept.size) in
       let more : 0 < length advanced = omega (arith, some, (set_hf_kept fields-moved (curr_hf path + 1)).size) in
       let hf : curr_hf after ≡ curr_hf path + 1 = change_hf changing in
@@ -271,7 +270,7 @@ inside_questions edition path =
     ∷ way_questions edition path
 
 place_inside : (edition : Edition) (path : List ℕ) → curr_hf path < hops path → curr_inf path < infos path
-    → first_no (peering_questions edition path) ≡ Valid → first_no (egress_place edition path) ≡ first_no (inside_questions edition path)
+    → first_no (peering_questions edition path) ≡ Ok tt → first_no (egress_place edition path) ≡ first_no (inside_questions edition path)
 unfolding asks
 place_inside edition path among inside fits =
     rw (lt-ltb _ _ among, lt-ltb _ _ inside, goes_on_lem (peering_questions edition path) (way_questions edition path) fits)
@@ -291,7 +290,7 @@ module _ (edition : Edition) (ids states : List ℕ) (mac : MacFunction) (interf
       go : (s : Standing edition path) (fields : FieldsMoved path (ingress_fields edition path interface) (ingress_seg_id edition path interface))
           (change : Bool)
           → changes edition path ≡ change
-          → first_no (ingress_questions edition ids states mac (at_ingress interface time unchecked) path change) ≡ Valid
+          → first_no (ingress_questions edition ids states mac (at_ingress interface time unchecked) path change) ≡ Ok tt
           → leaving path change ≡ out
           → Ready mac out time unchecked path (ingress_move edition path interface change)
       go s fields true e = change_ready edition ids states mac interface time unchecked path s fields e
@@ -314,7 +313,7 @@ module _ (edition : Edition) (ids states : List ℕ) (mac : MacFunction) (interf
           absurd (omega (arith, change_hf edition ids states mac interface time unchecked path s fields e, q))
       go false e q = refl
 
-  stay_free : changes edition path ≡ false → first_no (inside_questions edition after) ≡ Valid
+  stay_free : changes edition path ≡ false → first_no (inside_questions edition after) ≡ Ok tt
   unfolding asks ingress_move header_size
   stay_free stay =
       let s = stands edition ids states path w.asked w.placed in
@@ -335,28 +334,28 @@ module _ (edition : Edition) (ids states : List ℕ) (mac : MacFunction) (interf
         leads_on edition path onward stay,
       ))
 
-  before_again : first_no (before ids states after) ≡ Valid
+  before_again : first_no (before ids states after) ≡ Ok tt
   before_again = both_yes _ _ _ (first_yes _ _ _ w.asked) (asked_alike held ∙ rest_yes _ _ _ w.asked)
 
   went_on_bytes : (ingress edition ids states mac (at_ingress interface time unchecked) path).bytes ≡ after
   went_on_bytes = rw (ingress_all_told edition ids states mac (at_ingress interface time unchecked) path, w.asked, w.placed)
 
   pub egress_placed : egress edition ids states mac (at_egress out time unchecked) after
-      ≡ told (leaves Refused after) (first_no (egress_place edition after)) (record { answer = egress_action after; bytes = egress_move edition after })
+      ≡ told (leaves Err after) (first_no (egress_place edition after)) (record { answer = Ok (egress_action after); bytes = egress_move edition after })
   egress_placed = rw (egress_all_told edition ids states mac (at_egress out time unchecked) after, before_again, ready.passes)
 
   pub egress_after : egress edition ids states mac (at_egress out time unchecked) after
-      ≡ told (leaves Refused after) (first_no (inside_questions edition after)) (record { answer = egress_action after; bytes = egress_move edition after })
+      ≡ told (leaves Err after) (first_no (inside_questions edition after)) (record { answer = Ok (egress_action after); bytes = egress_move edition after })
   egress_after =
       let here : curr_hf after < hops after = rw (hops_kept held.kept) ready.among in
       let inside : curr_inf after < infos after = rw (infos_kept held.kept) ready.inside in
-      let fits : first_no (peering_questions edition after) ≡ Valid =
+      let fits : first_no (peering_questions edition after) ≡ Ok tt =
       ap first_no (questions_kept held.kept held.flags edition) ∙ (stands edition ids states path w.asked w.placed).fits in
       rw (egress_placed, place_inside edition after here inside fits)
 
 -- egress, on the bytes that an ingress left which went on: where the path stands is all that it asks, and of that what is left
 module _ (edition : Edition) (ids states : List ℕ) (mac : MacFunction) (interface time : ℕ) (unchecked : Bool) (path : List ℕ) (out : ℕ)
-    (e : (ingress edition ids states mac (at_ingress interface time unchecked) path).answer ≡ ContinueEgress out) where
+    (e : (ingress edition ids states mac (at_ingress interface time unchecked) path).answer ≡ Ok (ContinueEgress out)) where
   abbrev left : List ℕ
   left = (ingress edition ids states mac (at_ingress interface time unchecked) path).bytes
 
@@ -364,20 +363,20 @@ module _ (edition : Edition) (ids states : List ℕ) (mac : MacFunction) (interf
   on = went_on edition ids states mac interface time unchecked path out e
 
   egress_inside_placed : egress edition ids states mac (at_egress out time unchecked) left
-      ≡ told (leaves Refused left) (first_no (egress_place edition left)) (record { answer = egress_action left; bytes = egress_move edition left })
+      ≡ told (leaves Err left) (first_no (egress_place edition left)) (record { answer = Ok (egress_action left); bytes = egress_move edition left })
   egress_inside_placed =
       rw (went_on_bytes edition ids states mac interface time unchecked path out on)
       (egress_placed edition ids states mac interface time unchecked path out on)
 
   pub egress_inside : egress edition ids states mac (at_egress out time unchecked) left
-      ≡ told (leaves Refused left) (first_no (inside_questions edition left)) (record { answer = egress_action left; bytes = egress_move edition left })
+      ≡ told (leaves Err left) (first_no (inside_questions edition left)) (record { answer = Ok (egress_action left); bytes = egress_move edition left })
   egress_inside =
       rw (went_on_bytes edition ids states mac interface time unchecked path out on)
       (egress_after edition ids states mac interface time unchecked path out on)
 
   -- where CurrHF stayed, it asks nothing
   unmoved : curr_hf left ≡ curr_hf path
-      → egress edition ids states mac (at_egress out time unchecked) left ≡ record { answer = egress_action left; bytes = egress_move edition left }
+      → egress edition ids states mac (at_egress out time unchecked) left ≡ record { answer = Ok (egress_action left); bytes = egress_move edition left }
   unmoved same =
       let bytes = went_on_bytes edition ids states mac interface time unchecked path out on in
       let stay = not_moved edition ids states mac interface time unchecked path out on (rw bytes at same) in
@@ -386,25 +385,25 @@ module _ (edition : Edition) (ids states : List ℕ) (mac : MacFunction) (interf
       ∙ rw (stay_free edition ids states mac interface time unchecked path out on stay))
 
   egress_inside_moved : egress edition ids states mac (at_egress out time unchecked) left
-      ≡ told (leaves Refused left) (cond (eqb (curr_hf left) (curr_hf path)) Valid (first_no (egress_place edition left)))
-      (record { answer = egress_action left; bytes = egress_move edition left })
+      ≡ told (leaves Err left) (cond (eqb (curr_hf left) (curr_hf path)) (Ok tt) (first_no (egress_place edition left)))
+      (record { answer = Ok (egress_action left); bytes = egress_move edition left })
   egress_inside_moved = go (eqb (curr_hf left) (curr_hf path)) refl
     where
       go : (same : Bool) → eqb (curr_hf left) (curr_hf path) ≡ same
           → egress edition ids states mac (at_egress out time unchecked) left
-          ≡ told (leaves Refused left) (cond same Valid (first_no (egress_place edition left)))
-          (record { answer = egress_action left; bytes = egress_move edition left })
+          ≡ told (leaves Err left) (cond same (Ok tt) (first_no (egress_place edition left)))
+          (record { answer = Ok (egress_action left); bytes = egress_move edition left })
       go true e = unmoved (eqb-true _ _ e)
       go false e = egress_inside_placed
 
   -- the whole step: 15 and 17, then egress
   pub step_goes_on : step edition ids states mac interface time unchecked path
-      ≡ told (leaves Refused left) (first_no (leaving_questions (state_of ids states out) out left))
-      (told (leaves Refused left) (cond (eqb (curr_hf left) (curr_hf path)) Valid (first_no (egress_place edition left)))
-      (record { answer = egress_action left; bytes = egress_move edition left }))
+      ≡ told (leaves Err left) (first_no (leaving_questions (state_of ids states out) out left))
+      (told (leaves Err left) (cond (eqb (curr_hf left) (curr_hf path)) (Ok tt) (first_no (egress_place edition left)))
+      (record { answer = Ok (egress_action left); bytes = egress_move edition left }))
   unfolding step step_from
   step_goes_on =
       rw e
-      (asks_told (leaves Refused left) (leaving_questions (state_of ids states out) out left)
+      (asks_told (leaves Err left) (leaving_questions (state_of ids states out) out left)
       (egress edition ids states mac (at_egress out time unchecked) left)
-      ∙ ap (told (leaves Refused left) (first_no (leaving_questions (state_of ids states out) out left))) egress_inside_moved)
+      ∙ ap (told (leaves Err left) (first_no (leaving_questions (state_of ids states out) out left))) egress_inside_moved)

@@ -1,7 +1,7 @@
 -- What the step keeps, whatever it answers: the length and the three lengths, so that a yes to 2, 3 and 4 stays one; each byte past the
 -- header; and P of each info field.
 -- Assumes nothing.
-use mathlib.Core.Path.{◌≡◌, refl, sym, ap, subst, ◌∙◌}
+use mathlib.Core.Path.{◌≡◌, refl, ap, subst, ◌∙◌}
 use mathlib.Core.Bool.{Bool, true, false, cond}
 use mathlib.Core.List.{List}
 use Prim.Native.Nat.{ℕ, ◌+◌, ◌<◌}
@@ -11,9 +11,10 @@ use lib.ListN.{drop}
 use Rattle.standard_path.specs.Meta.{curr_inf, curr_hf, set_curr_inf, set_curr_hf}
 use Rattle.fields.specs.Fields.{cons_dir, peering}
 use Rattle.standard_path.specs.Header.{infos, hops, header_size, info_field, header_questions}
+use Rattle.std.specs.Prelude.{Result, Ok, Err}
 use Rattle.questions.specs.Questions.{within}
 use Rattle.writes.specs.Writes.{clear_ingress_alert}
-use Rattle.standard_path.proofs.Kept.{Kept, kept_self, kept_trans, infos_kept, hops_kept, header_size_kept, header_check_kept}
+use Rattle.standard_path.proofs.Kept.{Kept, kept_self, kept_trans, infos_kept, hops_kept, header_size_kept}
 use Rattle.writes.proofs.SegIdSet.{seg_id_kept, seg_id_past}
 use Rattle.writes.proofs.AlertCleared.{alert_kept, alert_past, alert_info}
 use Rattle.standard_path.proofs.IndexSet.{set_hf_kept, set_hf_past, set_hf_info, set_inf_kept, set_inf_past, set_inf_info}
@@ -21,10 +22,8 @@ use Rattle.answers.specs.Questions.{first_no}
 use Rattle.validator.specs.Check.{MacFunction, at_ingress, at_egress}
 use Rattle.validator.specs.declared.StandardValidator.{StandardValidator}
 use Rattle.answers.specs.declared.StandardRoutingError.{StandardRoutingError}
-use Rattle.answers.specs.declared.Validation.{Validation}
-use Rattle.answers.specs.declared.Validation.TheVariants.{Valid, Invalid}
-use Rattle.answers.specs.declared.IngressNextAction.{IngressNextAction}
-use Rattle.answers.specs.declared.IngressNextAction.TheVariants.{ContinueEgress, Complete, Refused}
+use Rattle.answers.specs.Answer.{IngressAnswer}
+use Rattle.answers.specs.declared.IngressNextAction.TheVariants.{ContinueEgress, Complete}
 use Rattle.answers.proofs.Asked.{first_yes, rest_yes, told, asks_told}
 use Rattle.answers.specs.declared.StandardRoutingError.TheVariants.{HeaderFailed}
 use Rattle.edition.specs.declared.Edition.{Edition}
@@ -37,9 +36,7 @@ use Rattle.ingress.specs.Ingress.{ingress}
 use Rattle.egress.specs.Egress.{egress}
 use Rattle.routing.specs.Step.{leaving_questions, leave, step_from, step}
 use Rattle.interface_table.specs.Table.{state_of}
-use Rattle.answers.specs.declared.StepAnswer.TheVariants.{Refused as Stopped}
 use Rattle.moves.proofs.Touched.{stepped_info}
-use Rattle.place.proofs.Places.{as_validation, header_law}
 
 pub record Holds (path after : List ℕ) : Type 0 where
   pub kept : Kept path after
@@ -65,7 +62,7 @@ inf_holds path n = record { kept = set_inf_kept path n; past = set_inf_past path
 -- 2, 3 and 4 are answered alike
 pub asked_alike : {path after : List ℕ} → Holds path after
     → first_no (within HeaderFailed (header_questions after)) ≡ first_no (within HeaderFailed (header_questions path))
-asked_alike {path} {after} k = header_law after ∙ ap as_validation (header_check_kept k.kept) ∙ sym (header_law path)
+asked_alike k = rw (k.kept.size, header_size_kept k.kept, hops_kept k.kept)
 
 -- ---- the moves, where CurrINF and CurrHF are in the header
 
@@ -117,18 +114,18 @@ module _ (edition : Edition) (path : List ℕ) (inside : curr_inf path < infos p
 -- ---- the halves, and the whole
 
 -- two lists of questions, where a no leaves the bytes
-asked_holds : {A : Type 0} (refuse : StandardRoutingError → A) (first place : Validation) (path : List ℕ) (moved : Outcome A)
-    → (place ≡ Valid → Holds path moved.bytes)
+asked_holds : {A : Type 0} (refuse : StandardRoutingError → A) (first place : Result Unit StandardRoutingError) (path : List ℕ) (moved : Outcome A)
+    → (place ≡ Ok tt → Holds path moved.bytes)
     → Holds path (told (leaves refuse path) first (told (leaves refuse path) place moved)).bytes
-asked_holds refuse (Invalid why) place path moved h = holds_self path
-asked_holds refuse Valid (Invalid why) path moved h = holds_self path
-asked_holds refuse Valid Valid path moved h = h refl
+asked_holds refuse (Err why) place path moved h = holds_self path
+asked_holds refuse (Ok _) (Err why) path moved h = holds_self path
+asked_holds refuse (Ok _) (Ok _) path moved h = h refl
 
 module _ (edition : Edition) (ids states : List ℕ) (mac : MacFunction) where
   pub ingress_holds : (at : StandardValidator) (path : List ℕ) → Holds path (ingress edition ids states mac at path).bytes
   ingress_holds at path =
       rw (ingress_told edition ids states mac at path)
-      (asked_holds Refused (first_no (before ids states path)) (first_no (ingress_place edition path)) path _
+      (asked_holds Err (first_no (before ids states path)) (first_no (ingress_place edition path)) path _
       (λ e.
       ingress_move_holds edition path
       (ltb-true _ _ (first_yes _ _ _ (rest_yes _ _ _ (rest_yes _ _ _ (rest_yes _ _ _ e)))))
@@ -139,18 +136,18 @@ module _ (edition : Edition) (ids states : List ℕ) (mac : MacFunction) where
   pub egress_holds : (at : StandardValidator) (path : List ℕ) → Holds path (egress edition ids states mac at path).bytes
   egress_holds at path =
       rw (egress_told edition ids states mac at path)
-      (asked_holds Stopped (first_no (before ids states path)) (first_no (egress_place edition path)) path _
+      (asked_holds Err (first_no (before ids states path)) (first_no (egress_place edition path)) path _
       (λ e.
       egress_move_holds edition path (ltb-true _ _ (first_yes _ _ _ (rest_yes _ _ _ (rest_yes _ _ _ e)))) (ltb-true _ _ (first_yes _ _ _ e))))
 
   leave_holds : (at : StandardValidator) (path : List ℕ) → Holds path (leave edition ids states mac at path).bytes
   leave_holds at path =
       let asked = leaving_questions (state_of ids states at.current_interface_id) at.current_interface_id path in
-      rw (asks_told (leaves Stopped path) asked (egress edition ids states mac at path)) (go (first_no asked))
+      rw (asks_told (leaves Err path) asked (egress edition ids states mac at path)) (go (first_no asked))
     where
-      go : (first : Validation) → Holds path (told (leaves Stopped path) first (egress edition ids states mac at path)).bytes
-      go (Invalid why) = holds_self path
-      go Valid = egress_holds at path
+      go : (first : Result Unit StandardRoutingError) → Holds path (told (leaves Err path) first (egress edition ids states mac at path)).bytes
+      go (Err why) = holds_self path
+      go (Ok _) = egress_holds at path
 
   pub step_holds : (interface time : ℕ) (unchecked : Bool) (path : List ℕ)
       → Holds path (step edition ids states mac interface time unchecked path).bytes
@@ -159,8 +156,8 @@ module _ (edition : Edition) (ids states : List ℕ) (mac : MacFunction) where
       let at = at_ingress interface time unchecked in
       go (ingress edition ids states mac at path).answer _ (ingress_holds at path)
     where
-      go : (answer : IngressNextAction) (bytes : List ℕ) → Holds path bytes
+      go : (answer : IngressAnswer) (bytes : List ℕ) → Holds path bytes
           → Holds path (step_from edition answer ids states mac time unchecked bytes).bytes
-      go (ContinueEgress out) bytes h = holds_trans h (leave_holds (at_egress out time unchecked) bytes)
-      go (Complete action) bytes h = h
-      go (Refused why) bytes h = h
+      go (Ok (ContinueEgress out)) bytes h = holds_trans h (leave_holds (at_egress out time unchecked) bytes)
+      go (Ok (Complete action)) bytes h = h
+      go (Err why) bytes h = h
