@@ -5,6 +5,7 @@ use mathlib.Core.Path.{◌≡◌, refl, ap, ◌∙◌}
 use mathlib.Core.Bool.{Bool, true, false, ◌||◌}
 use mathlib.Core.List.{List, [], ◌∷◌, ◌++◌}
 use Prim.Native.Nat.{ℕ}
+use Rattle.std.specs.Prelude.{Ok, Err}
 use Rattle.questions.specs.Questions.{asks}
 use Rattle.questions.proofs.Asked.{asks_of}
 use Rattle.answers.specs.Questions.{Questions}
@@ -13,10 +14,8 @@ use Rattle.validator.specs.declared.StandardValidator.{StandardValidator}
 use Rattle.answers.specs.declared.AdvanceError.TheVariants.{MisplacedPeering}
 use Rattle.answers.specs.declared.StandardRoutingError.{StandardRoutingError}
 use Rattle.answers.specs.declared.StandardRoutingError.TheVariants.{AdvanceFailed}
-use Rattle.answers.specs.declared.StepAnswer.{StepAnswer}
-use Rattle.answers.specs.declared.StepAnswer.TheVariants.{Refused as Stopped}
-use Rattle.answers.specs.declared.IngressNextAction.{IngressNextAction}
-use Rattle.answers.specs.declared.IngressNextAction.TheVariants.{ContinueEgress, Complete, Refused}
+use Rattle.answers.specs.Answer.{IngressAnswer, StepAnswer}
+use Rattle.answers.specs.declared.IngressNextAction.TheVariants.{ContinueEgress, Complete}
 use Rattle.edition.specs.declared.Edition.TheVariants.{First, Second}
 use Rattle.answers.specs.Outcome.{Outcome, leaves}
 use Rattle.edition.specs.Edition.{peering_form, peering_placed}
@@ -46,11 +45,11 @@ step_agrees ids states mac interface time unchecked path plain =
     (go (ingress First ids states mac at path).answer _
     (let held = ingress_holds First ids states mac at path in plain_kept held.kept held.flags plain))
   where
-    go : (answer : IngressNextAction) (bytes : List ℕ) → Plain bytes
+    go : (answer : IngressAnswer) (bytes : List ℕ) → Plain bytes
         → step_from Second answer ids states mac time unchecked bytes ≡ step_from First answer ids states mac time unchecked bytes
-    go (ContinueEgress out) bytes p = rw (egress_agrees ids states mac (at_egress out time unchecked) bytes p)
-    go (Complete action) bytes p = refl
-    go (Refused why) bytes p = refl
+    go (Ok (ContinueEgress out)) bytes p = rw (egress_agrees ids states mac (at_egress out time unchecked) bytes p)
+    go (Ok (Complete action)) bytes p = refl
+    go (Err why) bytes p = refl
 
 -- ---- P on a path that is no peering path: the first no of 1 to 8, else 28
 
@@ -75,39 +74,39 @@ misplaced = AdvanceFailed MisplacedPeering
 
 module _ (ids states : List ℕ) (mac : MacFunction) (at : StandardValidator) (path : List ℕ) (e : peering_placed path ≡ false) where
   pub ingress_misplaced : ingress Second ids states mac at path
-      ≡ asks (leaves Refused path) (before ids states path)
-      (asks (leaves Refused path) (ingress_place First path) (leaves Refused path misplaced))
+      ≡ asks (leaves Err path) (before ids states path)
+      (asks (leaves Err path) (ingress_place First path) (leaves Err path misplaced))
   unfolding ingress ingress_move
   ingress_misplaced =
       rw (e, misplaced_none path e)
-      (ap (asks (leaves Refused path) (before ids states path))
-      (stopped_behind (leaves Refused path) (ingress_place First path) [] misplaced _))
+      (ap (asks (leaves Err path) (before ids states path))
+      (stopped_behind (leaves Err path) (ingress_place First path) [] misplaced _))
 
   -- of egress: 5, 7 and 8
   pub egress_misplaced : egress Second ids states mac at path
-      ≡ asks (leaves Stopped path) (before ids states path)
-      (asks (leaves Stopped path) (place_questions path) (leaves Stopped path misplaced))
+      ≡ asks (leaves Err path) (before ids states path)
+      (asks (leaves Err path) (place_questions path) (leaves Err path misplaced))
   unfolding egress egress_move
   egress_misplaced =
       rw (e, misplaced_none path e)
-      (ap (asks (leaves Stopped path) (before ids states path))
-      (stopped_behind (leaves Stopped path) (place_questions path) _ misplaced _))
+      (ap (asks (leaves Err path) (before ids states path))
+      (stopped_behind (leaves Err path) (place_questions path) _ misplaced _))
 
 -- the step is the ingress half then
 pub step_misplaced : (ids states : List ℕ) (mac : MacFunction) (interface time : ℕ) (unchecked : Bool) (path : List ℕ)
     → peering_placed path ≡ false
     → step Second ids states mac interface time unchecked path
-    ≡ asks (leaves Stopped path) (before ids states path)
-    (asks (leaves Stopped path) (ingress_place First path) (leaves Stopped path misplaced))
+    ≡ asks (leaves Err path) (before ids states path)
+    (asks (leaves Err path) (ingress_place First path) (leaves Err path misplaced))
 unfolding step step_from
 step_misplaced ids states mac interface time unchecked path e =
     rw (ingress_misplaced ids states mac (at_ingress interface time unchecked) path e)
     (from (before ids states path) _ _ (from (ingress_place First path) _ _ refl))
   where
-    onward : Outcome IngressNextAction → Outcome StepAnswer
+    onward : Outcome IngressAnswer → Outcome StepAnswer
     onward outcome = step_from Second outcome.answer ids states mac time unchecked outcome.bytes
 
-    from : (questions : Questions) (halfway : Outcome IngressNextAction) (whole : Outcome StepAnswer) → onward halfway ≡ whole
-        → onward (asks (leaves Refused path) questions halfway) ≡ asks (leaves Stopped path) questions whole
+    from : (questions : Questions) (halfway : Outcome IngressAnswer) (whole : Outcome StepAnswer) → onward halfway ≡ whole
+        → onward (asks (leaves Err path) questions halfway) ≡ asks (leaves Err path) questions whole
     from questions halfway whole same =
-        asks_of onward (leaves Refused path) questions halfway ∙ ap (asks (leaves Stopped path) questions) same
+        asks_of onward (leaves Err path) questions halfway ∙ ap (asks (leaves Err path) questions) same

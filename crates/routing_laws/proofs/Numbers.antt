@@ -4,7 +4,7 @@ use Prim.Native.Nat.{ℕ}
 use mathlib.Core.Bool.{Bool, true, false}
 use mathlib.Core.List.{List, [], ◌∷◌, map}
 use mathlib.Core.Path.{◌≡◌, refl}
-use Rattle.interface_table.specs.declared.Listed.{Listed}
+use Rattle.std.specs.Prelude.{Option}
 use Rattle.answers.specs.Answer.{refusal_number}
 use Rattle.answers.specs.Questions.{Questions}
 use Rattle.validator.specs.Check.{MacFunction, hop_questions, change_questions, at_ingress, at_egress}
@@ -50,7 +50,7 @@ module _ (edition : Edition) (ids states : List ℕ) (mac : MacFunction) (interf
   ingress_numbers_at_change = refl
 
 -- 'Whole step only'
-pub leaving_numbers : (listed : Listed) (out : ℕ) (path : List ℕ) → numbers (leaving_questions listed out path) ≡ 15 ∷ 17 ∷ []
+pub leaving_numbers : (listed : Option ℕ) (out : ℕ) (path : List ℕ) → numbers (leaving_questions listed out path) ≡ 15 ∷ 17 ∷ []
 leaving_numbers listed out path = refl
 
 -- 'Egress'

@@ -5,9 +5,10 @@ use mathlib.Core.Path.{◌≡◌, refl}
 use mathlib.Core.Bool.{Bool, true, false}
 use mathlib.Core.List.{List}
 use Prim.Native.Nat.{ℕ}
+use Rattle.std.specs.Prelude.{Ok, Err}
 use Rattle.questions.specs.Questions.{asks}
-use Rattle.answers.specs.declared.IngressNextAction.{IngressNextAction}
-use Rattle.answers.specs.declared.IngressNextAction.TheVariants.{ContinueEgress, Complete, Refused}
+use Rattle.answers.specs.Answer.{IngressAnswer}
+use Rattle.answers.specs.declared.IngressNextAction.TheVariants.{ContinueEgress, Complete}
 use Rattle.validator.specs.Check.{MacFunction, key_mac, at_ingress, at_egress}
 use Rattle.edition.specs.declared.Edition.{Edition}
 use Rattle.place.specs.Place.{changes, is_final}
@@ -17,9 +18,9 @@ use Rattle.egress.specs.Egress.{egress}
 use Rattle.routing.specs.Step.{step_from, step}
 
 module _ (edition : Edition) (ids states : List ℕ) (mac other : MacFunction) (interface time : ℕ) (path : List ℕ) where
-  questions_unchecked : (change : Bool) (action : IngressNextAction)
-      → asks Refused (ingress_questions edition ids states mac (at_ingress interface time true) path change) action
-      ≡ asks Refused (ingress_questions edition ids states other (at_ingress interface time true) path change) action
+  questions_unchecked : (change : Bool) (action : IngressAnswer)
+      → asks Err (ingress_questions edition ids states mac (at_ingress interface time true) path change) action
+      ≡ asks Err (ingress_questions edition ids states other (at_ingress interface time true) path change) action
   unfolding asks
   questions_unchecked true action = refl
   questions_unchecked false action = refl
@@ -27,7 +28,7 @@ module _ (edition : Edition) (ids states : List ℕ) (mac other : MacFunction) (
   pub ingress_unchecked : ingress edition ids states mac (at_ingress interface time true) path
       ≡ ingress edition ids states other (at_ingress interface time true) path
   unfolding ingress
-  ingress_unchecked = rw (questions_unchecked (changes edition path) (ingress_action path interface (changes edition path) (is_final path)))
+  ingress_unchecked = rw (questions_unchecked (changes edition path) (Ok (ingress_action path interface (changes edition path) (is_final path))))
 
   pub egress_unchecked : egress edition ids states mac (at_egress interface time true) path
       ≡ egress edition ids states other (at_egress interface time true) path
@@ -41,11 +42,11 @@ step_unchecked edition ids states mac other interface time path =
     rw (ingress_unchecked edition ids states mac other interface time path)
     (go (ingress edition ids states other (at_ingress interface time true) path).answer _)
   where
-    go : (answer : IngressNextAction) (bytes : List ℕ)
+    go : (answer : IngressAnswer) (bytes : List ℕ)
         → step_from edition answer ids states mac time true bytes ≡ step_from edition answer ids states other time true bytes
-    go (ContinueEgress out) bytes = rw (egress_unchecked edition ids states mac other out time bytes)
-    go (Complete action) bytes = refl
-    go (Refused why) bytes = refl
+    go (Ok (ContinueEgress out)) bytes = rw (egress_unchecked edition ids states mac other out time bytes)
+    go (Ok (Complete action)) bytes = refl
+    go (Err why) bytes = refl
 
 -- whatever the key
 pub step_any_key : (edition : Edition) (ids states key another : List ℕ) (interface time : ℕ) (path : List ℕ)
