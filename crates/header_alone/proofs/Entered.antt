@@ -1,36 +1,19 @@
 -- Where a path stands that an ingress moved: CurrINF and CurrHF are in its header.
 -- Assumes nothing.
 use mathlib.Core.Path.{◌≡◌, refl, ◌∙◌}
-use mathlib.Core.Bool.{Bool, true, false, not, ◌&&◌}
+use mathlib.Core.Bool.{Bool, true, false}
 use mathlib.Core.List.{List}
-use Prim.Native.Nat.{ℕ, ◌+◌, ◌≤◌, ◌<◌}
+use Prim.Native.Nat.{ℕ, ◌+◌, ◌<◌}
 use native.Mathlib.Omega.{arith}
-use borrow.Author.Tests.{leb-false}
-use lib.Dec.{leb}
 use lib.ListN.{length}
 use Rattle.standard_path.specs.Meta.{curr_inf, curr_hf, set_curr_hf}
 use Rattle.standard_path.specs.Header.{infos, hops, header_size}
 use Rattle.standard_path.proofs.IndexSet.{hf_after_hf, hf_after_inf, inf_after_inf, set_hf_kept}
 use Rattle.edition.specs.declared.Edition.{Edition}
-use Rattle.place.specs.Place.{ends, is_peering_hop, changes}
+use Rattle.place.specs.Place.{changes}
 use Rattle.moves.specs.Moves.{ingress_seg_id, ingress_fields, ingress_move}
 use Rattle.moves.proofs.Touched.{FieldsMoved, ingress_fields_moved}
-use Rattle.routing.proofs.Inside.{Standing}
-
--- a segment change has a next hop
-pub next_hop_there : (edition : Edition) (path : List ℕ) → changes edition path ≡ true → curr_hf path + 1 < hops path
-next_hop_there edition path e = go (is_peering_hop edition path) (ends path) (leb (hops path) (curr_hf path + 1)) refl e
-  where
-    go : (peer end final : Bool) → leb (hops path) (curr_hf path + 1) ≡ final → (not peer && (end && not final)) ≡ true
-        → curr_hf path + 1 < hops path
-    go false true false f q = leb-false _ _ f
-    go false true true f q = let z : ◌≡◌ {A = ℕ} 0 1 = cc in absurd (omega arith)
-    go false false final f q = let z : ◌≡◌ {A = ℕ} 0 1 = cc in absurd (omega arith)
-    go true end final f q = let z : ◌≡◌ {A = ℕ} 0 1 = cc in absurd (omega arith)
-
-infos_few : (path : List ℕ) → infos path ≤ 3
-unfolding infos
-infos_few path = omega arith
+use Rattle.routing.proofs.Inside.{Standing, next_hop_there, infos_few}
 
 pub record Entered (path after : List ℕ) : Type 0 where
   pub among : curr_hf after < hops path

@@ -19,7 +19,7 @@ use Rattle.edition.specs.Edition.{peering_path, peering_questions}
 use Rattle.place.specs.Place.{before, is_final, crosses, changes, ingress_place}
 use Rattle.writes.specs.Writes.{set_seg_id, flags_at, clear_ingress_alert}
 use Rattle.routing.proofs.Inside.{inside_questions}
-use Rattle.header_alone.proofs.Lengths.{SameLengths, infos_same, hops_same, header_size_same, peering_same, questions_same}
+use Rattle.edition.proofs.Lengths.{SameLengths, infos_same, hops_same, header_size_same, peering_same, questions_same}
 
 -- question 3 of a path
 abbrev pub Whole : List ℕ → Type 0

@@ -11,11 +11,10 @@ use Rattle.standard_path.specs.Header.{infos, hops}
 use Rattle.standard_path.proofs.Kept.{Kept, kept_self, infos_kept, hops_kept}
 use Rattle.standard_path.proofs.IndexSet.{set_hf_kept}
 use Rattle.fields.specs.Fields.{cons_dir}
+use Rattle.std.specs.Prelude.{Result, Ok, Err}
+use Rattle.answers.specs.declared.StandardRoutingError.{StandardRoutingError}
 use Rattle.answers.specs.Questions.{first_no}
 use Rattle.answers.specs.Outcome.{Outcome, leaves}
-use Rattle.answers.specs.declared.Validation.{Validation}
-use Rattle.answers.specs.declared.Validation.TheVariants.{Valid, Invalid}
-use Rattle.answers.specs.declared.StepAnswer.TheVariants.{Refused}
 use Rattle.answers.proofs.Asked.{told}
 use Rattle.validator.specs.Check.{MacFunction, at_ingress}
 use Rattle.validator.specs.declared.StandardValidator.{StandardValidator}
@@ -31,8 +30,8 @@ use Rattle.ingress.specs.Ingress.{alerts_at_ingress, leaving, ingress_action}
 use Rattle.egress.specs.Egress.{egress_action}
 use Rattle.routing.specs.Step.{step}
 use Rattle.routing.proofs.Moved.{ingress_move_holds}
-use Rattle.routing.proofs.Inside.{Standing, stands, WentOn, inside_questions}
-use Rattle.header_alone.proofs.Entered.{next_hop_there, entered}
+use Rattle.routing.proofs.Inside.{Standing, stands, next_hop_there, WentOn, inside_questions}
+use Rattle.header_alone.proofs.Entered.{entered}
 use Rattle.routing_laws.proofs.Whole.{step_asks, checks, leaving_checks, way_out, acted}
 use Rattle.header_alone.proofs.Followed.{Whole, whole_kept, lengths_same, first_byte, info_same, hop_same, peering_path_same, before_same, changes_same, final_same, crosses_same, ingress_place_same, inside_same, seg_id_followed, alert_followed, hf_followed, inf_followed}
 
@@ -202,15 +201,15 @@ module _ (edition : Edition) (ids states : List ℕ) (mac : MacFunction) (interf
       after : List ℕ
       after = ingress_move edition path interface (changes edition path)
 
-      go : (leaving inside : Validation)
-          → told (leaves Refused (after ++ rest)) leaving
-          (told (leaves Refused (after ++ rest)) inside (record { answer = egress_action after; bytes = egress_move edition after ++ rest }))
+      go : (leaving inside : Result Unit StandardRoutingError)
+          → told (leaves Err (after ++ rest)) leaving
+          (told (leaves Err (after ++ rest)) inside (record { answer = Ok (egress_action after); bytes = egress_move edition after ++ rest }))
           ≡ followed rest
-          (told (leaves Refused after) leaving
-          (told (leaves Refused after) inside (record { answer = egress_action after; bytes = egress_move edition after })))
-      go (Invalid why) inside = refl
-      go Valid (Invalid why) = refl
-      go Valid Valid = refl
+          (told (leaves Err after) leaving
+          (told (leaves Err after) inside (record { answer = Ok (egress_action after); bytes = egress_move edition after })))
+      go (Err why) inside = refl
+      go (Ok _) (Err why) = refl
+      go (Ok _) (Ok _) = refl
 
   pub step_followed : Whole path
       → step edition ids states mac interface time unchecked (path ++ rest) ≡ followed rest (step edition ids states mac interface time unchecked path)
@@ -225,36 +224,36 @@ module _ (edition : Edition) (ids states : List ℕ) (mac : MacFunction) (interf
       (go (first_no (before ids states path)) refl (first_no (ingress_place edition path)) refl)
     where
       -- what is found of the longer path is what is found of the path
-      acted-followed : Standing edition path → first_no (before ids states path) ≡ Valid → first_no (ingress_place edition path) ≡ Valid
-          → (passed : Validation) {again : Validation} → again ≡ passed → first_no (checks edition ids states mac interface time unchecked path) ≡ passed
+      acted-followed : Standing edition path → first_no (before ids states path) ≡ Ok tt → first_no (ingress_place edition path) ≡ Ok tt
+          → (passed : Result Unit StandardRoutingError) {again : Result Unit StandardRoutingError} → again ≡ passed → first_no (checks edition ids states mac interface time unchecked path) ≡ passed
           → (alert : Bool) {alerted : Bool} → alerted ≡ alert → alerts_at_ingress path interface ≡ alert
           → (final : Bool) {ended : Bool} → ended ≡ final → is_final path ≡ final
-          → told (leaves Refused (ingress_move edition (path ++ rest) interface (changes edition (path ++ rest)))) again
+          → told (leaves Err (ingress_move edition (path ++ rest) interface (changes edition (path ++ rest)))) again
           (acted edition ids states mac interface time unchecked (path ++ rest) alerted ended)
           ≡ followed rest
-          (told (leaves Refused (ingress_move edition path interface (changes edition path))) passed
+          (told (leaves Err (ingress_move edition path interface (changes edition path))) passed
           (acted edition ids states mac interface time unchecked path alert final))
-      acted-followed s a b (Invalid why) p c alert q d final r e = rw (p, entered_followed edition path rest s interface)
-      acted-followed s a b Valid p c true q d final r e = rw (p, q, entered_followed edition path rest s interface)
-      acted-followed s a b Valid p c false q d true r e = rw (p, q, r, entered_followed edition path rest s interface)
-      acted-followed s a b Valid p c false q d false r e =
+      acted-followed s a b (Err why) p c alert q d final r e = rw (p, entered_followed edition path rest s interface)
+      acted-followed s a b (Ok _) p c true q d final r e = rw (p, q, entered_followed edition path rest s interface)
+      acted-followed s a b (Ok _) p c false q d true r e = rw (p, q, r, entered_followed edition path rest s interface)
+      acted-followed s a b (Ok _) p c false q d false r e =
           rw (p, q, r) (way_out_followed (record { asked = a; placed = b; checked = c; going = rw (d, e) }))
 
-      go : (first : Validation) → first_no (before ids states path) ≡ first → (place : Validation) → first_no (ingress_place edition path) ≡ place
-          → told (leaves Refused (path ++ rest)) first
-          (told (leaves Refused (path ++ rest)) place
-          (told (leaves Refused (ingress_move edition (path ++ rest) interface (changes edition (path ++ rest))))
+      go : (first : Result Unit StandardRoutingError) → first_no (before ids states path) ≡ first → (place : Result Unit StandardRoutingError) → first_no (ingress_place edition path) ≡ place
+          → told (leaves Err (path ++ rest)) first
+          (told (leaves Err (path ++ rest)) place
+          (told (leaves Err (ingress_move edition (path ++ rest) interface (changes edition (path ++ rest))))
           (first_no (checks edition ids states mac interface time unchecked (path ++ rest)))
           (acted edition ids states mac interface time unchecked (path ++ rest) (alerts_at_ingress (path ++ rest) interface) (is_final (path ++ rest)))))
           ≡ followed rest
-          (told (leaves Refused path) first
-          (told (leaves Refused path) place
-          (told (leaves Refused (ingress_move edition path interface (changes edition path)))
+          (told (leaves Err path) first
+          (told (leaves Err path) place
+          (told (leaves Err (ingress_move edition path interface (changes edition path)))
           (first_no (checks edition ids states mac interface time unchecked path))
           (acted edition ids states mac interface time unchecked path (alerts_at_ingress path interface) (is_final path)))))
-      go (Invalid why) a place b = refl
-      go Valid a (Invalid why) b = refl
-      go Valid a Valid b =
+      go (Err why) a place b = refl
+      go (Ok _) a (Err why) b = refl
+      go (Ok _) a (Ok _) b =
           let s = stands edition ids states path a b in
           acted-followed s a b
           _ (ap first_no (checks_same edition path rest s ids states mac interface time unchecked)) refl

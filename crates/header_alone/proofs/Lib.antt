@@ -1,4 +1,3 @@
-pub mod Lengths
 pub mod Entered
 pub mod Followed
 pub mod HeaderAlone
