@@ -134,6 +134,7 @@ impl<'a> Iterator for SegmentIterator<'a> {
 
     ghost remaining = { item_count rest };
 
+    #[tactic(auto, using(crate::proofs::Walk::rest_none, crate::proofs::Walk::rest_some))]
     fn next(&mut self) -> Option<Segment>
         ensures step { (result ≡ step_of self.old) × (self.new ≡ advanced self.old) }
         ensures steps { YieldsFirst rest self.old result self.new }
