@@ -57,12 +57,12 @@ fn run_call(rt: &impl Print, alloc: Global, given: &Given, call: Call<'_>) -> Re
 fn main(rt: HostRuntime) -> Result<()> {
     let alloc = rt.alloc();
     let mut given = Given::new(alloc)?;
-    for line in rt.lines(alloc) {
+    for (number, line) in rt.lines(alloc).enumerate() {
         let line = line?;
         if line.is_empty() {
             break;
         }
-        run(&rt, alloc, &mut given, &line).context(format_args!("at {line:?}"))?;
+        run(&rt, alloc, &mut given, &line).context(format_args!("line {number}, counted from 0"))?;
     }
     Ok(())
 }
