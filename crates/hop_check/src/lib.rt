@@ -8,47 +8,41 @@ ghost use Rattle.station.specs.Station.{station_at};
 ghost use Rattle.hop_check.specs.Hop.{mac_fits, arrives_by, leaves_by, hop_fits};
 ghost use Rattle.hop_check.specs.Inner.{key_mac_by};
 
-use interface_table::Listed;
-use records::form::Form;
+use cmac::KeySchedule;
+use records::Itinerary;
 use station::lookup;
 use validator::{expected_mac, mac_number};
 
+#[tactic(auto, unfolding(crate::specs::Hop::mac_fits))]
 fn mac_fits(table: &[u8; 1024], key: [u8; 16], info: &[u8], hop: &[u8], segment_id: u16) -> bool
     ensures { result ≡ mac_fits (key_mac_by table.now key) info.now hop.now segment_id }
 {
-    let round_keys = aes_keys::expand_key(key);
-    let k1 = cmac::subkey_with(table, round_keys);
-    let expected = expected_mac(table, round_keys, k1, hop, info, segment_id);
+    let expected = expected_mac(KeySchedule::new(table, key), hop, info, segment_id);
     let found = mac_number(fields::mac(hop));
     expected == found
 }
 
-pub fn arrives_by(form: Form, itinerary: &[u8], station: u32, info: &[u8], hop: &[u8]) -> bool
-    ensures { result ≡ arrives_by (station_at (layout_of form) itinerary.now station) info.now hop.now }
+#[tactic(auto, unfolding(crate::specs::Hop::arrives_by, station::specs::Station::station_with))]
+pub fn arrives_by(itinerary: Itinerary<'_>, station: u32, info: &[u8], hop: &[u8]) -> bool
+    ensures { result ≡ arrives_by (station_at (layout_of itinerary.entry.form) itinerary.entry.bytes.now station) info.now hop.now }
 {
     let ingress = fields::ingress_interface(hop, info);
-    (ingress == 0) | (ingress == records::arrival(form, itinerary, station))
+    (ingress == 0) | (ingress == itinerary.arrival(station))
 }
 
-pub fn leaves_by(form: Form, itinerary: &[u8], station: u32, info: &[u8], hop: &[u8]) -> bool
-    ensures { result ≡ leaves_by (station_at (layout_of form) itinerary.now station) info.now hop.now }
+#[tactic(auto, unfolding(crate::specs::Hop::leaves_by))]
+pub fn leaves_by(itinerary: Itinerary<'_>, station: u32, info: &[u8], hop: &[u8]) -> bool
+    ensures { result ≡ leaves_by (station_at (layout_of itinerary.entry.form) itinerary.entry.bytes.now station) info.now hop.now }
 {
-    match lookup(
-        form,
-        itinerary,
-        station,
-        fields::egress_interface(hop, info),
-    ) {
-        Listed::State(state) => interface_table::is_up(state),
-        Listed::Nothing => false,
-    }
+    let listed = lookup(itinerary, station, fields::egress_interface(hop, info));
+    listed.is_some_and(interface_table::is_up)
 }
 
 // A hop of a segment, at the station with this record.
+#[tactic(auto, unfolding(crate::specs::Hop::hop_fits))]
 pub fn hop_fits(
-    form: Form,
     table: &[u8; 1024],
-    itinerary: &[u8],
+    itinerary: Itinerary<'_>,
     station: u32,
     latest: u32,
     info: &[u8],
@@ -57,13 +51,12 @@ pub fn hop_fits(
     first: bool,
     last: bool,
 ) -> bool
-    ensures { result ≡ hop_fits (key_mac_by table.now (key_of (layout_of form) itinerary.now station))
-        (station_at (layout_of form) itinerary.now station) latest info.now hop.now
+    ensures { result ≡ hop_fits (key_mac_by table.now (key_of (layout_of itinerary.entry.form) itinerary.entry.bytes.now station))
+        (station_at (layout_of itinerary.entry.form) itinerary.entry.bytes.now station) latest info.now hop.now
         segment_id first last }
 {
-    let key = records::key(form, itinerary, station);
     (latest <= fields::expiry_timestamp(hop, info))
-        & mac_fits(table, key, info, hop, segment_id)
-        & (first | arrives_by(form, itinerary, station, info, hop))
-        & (last | leaves_by(form, itinerary, station, info, hop))
+        & mac_fits(table, itinerary.key(station), info, hop, segment_id)
+        & (first | arrives_by(itinerary, station, info, hop))
+        & (last | leaves_by(itinerary, station, info, hop))
 }
