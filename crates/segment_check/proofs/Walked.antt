@@ -1,14 +1,14 @@
 -- What the loop along a segment owes: the SegID and the station's record of a hop, each from those of the hop before it.
 -- Assumes nothing.
 use mathlib.Core.Path.{◌≡◌, refl, ◌∙◌}
-use mathlib.Core.Bool.{Bool, true, false, cond}
+use mathlib.Core.Bool.{Bool, true, false, not, cond}
 use mathlib.Core.List.{List}
-use mathlib.Core.Logic.{◌⊎◌, ⊎_elim}
 use Prim.Native.Nat.{ℕ, zero, suc, ◌+◌, ◌-◌, ◌≤◌, ◌<◌}
 use native.Mathlib.Omega.{arith}
 use borrow.Author.Tests.{lt-leb, le-leb}
 use native.Mathlib.Numerals.{add-one}
 use lib.Dec.{eqb, leb}
+use Rattle.std.specs.Int.{from_bool}
 use Rattle.aes.specs.ByTable.{round_table}
 use Rattle.hop_mac.specs.Mac.{mac_beta_step, mac_chaining_beta}
 use Rattle.fields.specs.Fields.{by_direction, cons_dir, seg_id, timestamp, mac_field}
@@ -39,10 +39,13 @@ module _ (peer : ℕ → Bool) (info : List ℕ) (hop : ℕ → List ℕ) where
       rw (chain_one_more peer hop info m, ← less, ← e, ← s, ← f) q
 
 -- the place of the MAC that goes in: the first one's, and so many on
-pub stepped_place : (info : List ℕ) (m : ℕ) {A B : Type 0} {first : ℕ} → (A × (first ≡ 0)) ⊎ (B × (first ≡ 1))
-    → (A → cons_dir info ≡ true) → (B → cons_dir info ≡ false) → 0 < m → first + m - 1 ≡ by_direction (cons_dir info) 0 1 + (m - 1)
-stepped_place info m {A} {B} {first} came set clear h =
-    ⊎_elim (λ w. rw (w.1, set w.0) (omega arith)) (λ w. rw (w.1, clear w.0) (omega arith)) came
+pub stepped_place : (info : List ℕ) (m : ℕ) {dir : Bool} {first : ℕ} → dir ≡ cons_dir info → first ≡ from_bool (not dir) → 0 < m
+    → first + m - 1 ≡ by_direction (cons_dir info) 0 1 + (m - 1)
+stepped_place info m {dir} e f h = rw (f, ← e) (go dir)
+  where
+    go : (b : Bool) → from_bool (not b) + m - 1 ≡ by_direction b 0 1 + (m - 1)
+    go true = omega arith
+    go false = omega arith
 
 -- ---- a walk along a segment: `done` of its hops have been asked, and the walk stands at the next one
 

@@ -1,61 +1,82 @@
-// The hops of a segment: where they stand in the path.
+// A segment of a path: where its hops stand in the path.
 ghost use Rattle.std.specs.Prelude.{◌≡◌, ◌+◌, ◌-◌, ◌<◌};
+ghost use Rattle.standard_path.specs.Header.{info_field};
 ghost use Rattle.segment_check.specs.Segment.{start_of, count_of, hop_of, peering_hop_of};
 
 use edition::Edition;
 use standard_path::view;
 
-pub fn segment_start(path: &[u8], segment: u8) -> u8
-    ensures { (result ≡ start_of path.now segment) × (result < 127) }
+fn length(path: &[u8], place: u8) -> u8
+    ensures { (result ≡ count_of path.now place) × (result < 64) }
 {
-    match segment {
-        0 => 0,
-        1 => view::seg0_len(path),
-        _ => view::seg0_len(path) + view::seg1_len(path),
-    }
-}
-
-pub fn hop_count(path: &[u8], segment: u8) -> u8
-    ensures { (result ≡ count_of path.now segment) × (result < 64) }
-{
-    match segment {
+    match place {
         0 => view::seg0_len(path),
         1 => view::seg1_len(path),
         _ => view::seg2_len(path),
     }
 }
 
-// The hop field with this place in its segment.
-pub(crate) fn hop_of(path: &[u8], segment: u8, hop: u8) -> &[u8]
-    requires { hop < 64 }
-    ensures { result.now ≡ hop_of path.now segment hop }
-{
-    view::hop_field(path, segment_start(path, segment) + hop)
+// The segment with this place among the path's, whether the path has it or not.
+#[derive(Clone, Copy)]
+pub struct PathSegment<'a> {
+    pub path: &'a [u8],
+    pub place: u8,
 }
 
-pub fn first_hop(path: &[u8], segment: u8) -> &[u8]
-    ensures { result.now ≡ hop_of path.now segment 0 }
-{
-    hop_of(path, segment, 0)
-}
+impl<'a> PathSegment<'a> {
+    pub fn start(self) -> u8
+        ensures { (result ≡ start_of self.entry.path.now self.entry.place) × (result < 127) }
+    {
+        match self.place {
+            0 => 0,
+            1 => length(self.path, 0),
+            _ => length(self.path, 0) + length(self.path, 1),
+        }
+    }
 
-// The place of the segment's last hop among the path's; where it has none, of the one that would be its first.
-pub fn last_place(path: &[u8], segment: u8) -> u8
-    ensures { result ≡ start_of path.now segment + (count_of path.now segment - 1) }
-{
-    segment_start(path, segment) + hop_count(path, segment).saturating_sub(1)
-}
+    pub fn hop_count(self) -> u8
+        ensures { (result ≡ count_of self.entry.path.now self.entry.place) × (result < 64) }
+    {
+        length(self.path, self.place)
+    }
 
-pub fn last_hop(path: &[u8], segment: u8) -> &[u8]
-    ensures { result.now ≡ hop_of path.now segment (count_of path.now segment - 1) }
-{
-    view::hop_field(path, last_place(path, segment))
-}
+    pub fn info_field(self) -> &'a [u8]
+        ensures { result.now ≡ info_field self.entry.path.now self.entry.place }
+    {
+        view::info_field(self.path, self.place)
+    }
 
-// Whether it is a peering hop.
-pub(crate) fn is_peering_hop(edition: Edition, path: &[u8], segment: u8, hop: u8) -> bool
-    requires { hop < 64 }
-    ensures { result ≡ peering_hop_of edition path.now segment hop }
-{
-    edition::is_peering_hop(edition, path, segment_start(path, segment) + hop)
+    // The hop field with this place in the segment.
+    pub(crate) fn hop_field(self, hop: u8) -> &'a [u8]
+        requires { hop < 64 }
+        ensures { result.now ≡ hop_of self.entry.path.now self.entry.place hop }
+    {
+        view::hop_field(self.path, self.start() + hop)
+    }
+
+    pub fn first_hop(self) -> &'a [u8]
+        ensures { result.now ≡ hop_of self.entry.path.now self.entry.place 0 }
+    {
+        self.hop_field(0)
+    }
+
+    // The place of its last hop among the path's; where it has none, of the one that would be its first.
+    pub fn last_place(self) -> u8
+        ensures { result ≡ start_of self.entry.path.now self.entry.place + (count_of self.entry.path.now self.entry.place - 1) }
+    {
+        self.start() + self.hop_count().saturating_sub(1)
+    }
+
+    pub fn last_hop(self) -> &'a [u8]
+        ensures { result.now ≡ hop_of self.entry.path.now self.entry.place (count_of self.entry.path.now self.entry.place - 1) }
+    {
+        view::hop_field(self.path, self.last_place())
+    }
+
+    pub(crate) fn is_peering_hop(self, edition: Edition, hop: u8) -> bool
+        requires { hop < 64 }
+        ensures { result ≡ peering_hop_of edition self.entry.path.now self.entry.place hop }
+    {
+        edition::is_peering_hop(edition, self.path, self.start() + hop)
+    }
 }

@@ -2,4 +2,5 @@
 #![tactic(auto)]
 
 pub mod hops;
+pub mod journey;
 pub mod segments;

@@ -6,86 +6,82 @@ ghost use Rattle.records.specs.Layout.{layout_of};
 ghost use Rattle.records.specs.Records.{record_after};
 ghost use Rattle.segment_check.specs.Segment.{each_below, hop_of, peering_hop_of, chained_seg_id, segment_fits_from};
 
-use crate::hops;
+use crate::hops::PathSegment;
+use crate::journey::Journey;
 use edition::Edition;
 use hop_check::hop_fits;
 use hop_mac::mac_beta_step;
-use records::form::Form;
+use records::Itinerary;
 use standard_path::view;
 
 // ---- a segment
 
 // The station behind this one; behind the last there is none.
-fn next_station(form: Form, itinerary: &[u8], station: u32) -> u32
-    ensures { result ≡ record_after (layout_of form) itinerary.now station 1 }
+#[tactic(auto, unfolding(records::specs::Records::record_after))]
+fn next_station(itinerary: Itinerary<'_>, station: u32) -> u32
+    ensures { result ≡ record_after (layout_of itinerary.entry.form) itinerary.entry.bytes.now station 1 }
 {
     if station == 0 {
         return 0;
     }
-    records::next(form, itinerary, station)
+    itinerary.next(station)
 }
 
 // The SegID that a hop is checked with, from that of the hop before it: that hop's MAC goes in, or, against construction, its own. So
 // the MACs that go in are those from the first on, or from the second.
-fn chained_segment_id(edition: Edition, path: &[u8], segment: u8, before: u16, hop: u8) -> u16
-    requires chained { before ≡ chained_seg_id (peering_hop_of edition path.now segment) (info_field path.now segment)
-        (hop_of path.now segment) (hop - 1) }
+fn chained_segment_id(edition: Edition, segment: PathSegment<'_>, before: u16, hop: u8) -> u16
+    requires chained { before ≡ chained_seg_id (peering_hop_of edition segment.path.now segment.place)
+        (info_field segment.path.now segment.place) (hop_of segment.path.now segment.place) (hop - 1) }
     requires short { hop < 64 }
-    ensures { result ≡ chained_seg_id (peering_hop_of edition path.now segment) (info_field path.now segment)
-        (hop_of path.now segment) hop }
+    ensures { result ≡ chained_seg_id (peering_hop_of edition segment.entry.path.now segment.entry.place)
+        (info_field segment.entry.path.now segment.entry.place) (hop_of segment.entry.path.now segment.entry.place) hop }
 {
-    let cons_dir = fields::cons_dir(view::info_field(path, segment));
+    let cons_dir = fields::cons_dir(segment.info_field());
     if hop < 1 {
         return before;
     }
-    let first: u8 = if cons_dir { 0 } else { 1 };
+    let first = u8::from(!cons_dir);
     let stepped = first + hop - 1;
-    if hops::is_peering_hop(edition, path, segment, stepped) {
+    if segment.is_peering_hop(edition, stepped) {
         return before;
     }
-    mac_beta_step(before, fields::mac(hops::hop_of(path, segment, stepped)))
+    mac_beta_step(before, fields::mac(segment.hop_field(stepped)))
 }
 
 // A segment whose first hop is at the station with this record.
-fn segment_fits(
-    form: Form,
-    edition: Edition,
-    table: &[u8; 1024],
-    itinerary: &[u8],
-    first: u32,
-    earliest: u32,
-    latest: u32,
-    path: &[u8],
-    segment: u8,
-) -> bool
+#[tactic(auto, using(crate::proofs::Walked::segment_early))]
+fn segment_fits(journey: Journey<'_>, table: &[u8; 1024], first: u32, place: u8) -> bool
     requires { table.now ≡ round_table }
-    ensures { result ≡ segment_fits_from edition (layout_of form) itinerary.now first earliest latest
-        path.now segment }
+    ensures { let j = journey.entry in result ≡ segment_fits_from j.edition (layout_of j.itinerary.form) j.itinerary.bytes.now first
+        j.earliest j.latest j.path.now place }
 {
-    let info = view::info_field(path, segment);
-    if earliest < fields::timestamp(info) {
+    let segment = PathSegment {
+        path: journey.path,
+        place,
+    };
+    let info = segment.info_field();
+    if journey.earliest < fields::timestamp(info) {
         return false;
     }
-    let count = hops::hop_count(path, segment);
+    let count = segment.hop_count();
     let mut station = first;
     let mut segment_id = fields::segment_id(info);
     for hop in 0..count {
-        segment_id = chained_segment_id(edition, path, segment, segment_id, hop);
+        segment_id = chained_segment_id(journey.edition, segment, segment_id, hop);
         if !hop_fits(
-            form,
             table,
-            itinerary,
+            journey.itinerary,
             station,
-            latest,
+            journey.latest,
             info,
-            hops::hop_of(path, segment, hop),
+            segment.hop_field(hop),
             segment_id,
             hop == 0,
             count <= hop + 1,
         ) {
             return false;
         }
-        station = next_station(form, itinerary, station);
+        station = next_station(journey.itinerary, station);
     }
     true
 }
@@ -93,22 +89,12 @@ fn segment_fits(
 // ---- all segments
 
 // Each segment, its first hop at the station with the record given. The round table is copied here, once for all MACs.
-pub fn segments_fit(
-    form: Form,
-    edition: Edition,
-    itinerary: &[u8],
-    firsts: [u32; 3],
-    earliest: u32,
-    latest: u32,
-    path: &[u8],
-) -> bool
-    ensures { result ≡ each_below (infos path.now) (λ s. segment_fits_from edition (layout_of form) itinerary.now
-        (get_or firsts s 0) earliest latest path.now s) }
+pub fn segments_fit(journey: Journey<'_>, firsts: [u32; 3]) -> bool
+    ensures { let j = journey.entry in result ≡ each_below (infos j.path.now) (λ s. segment_fits_from j.edition
+        (layout_of j.itinerary.form) j.itinerary.bytes.now (get_or firsts s 0) j.earliest j.latest j.path.now s) }
 {
     let table = aes::round_table();
-    (0..view::info_field_count(path)).zip(firsts.iter()).all(|(segment, first)| {
-        segment_fits(
-            form, edition, &table, itinerary, *first, earliest, latest, path, segment,
-        )
-    })
+    (0..view::info_field_count(journey.path))
+        .zip(firsts.iter())
+        .all(|(place, first)| segment_fits(journey, &table, *first, place))
 }

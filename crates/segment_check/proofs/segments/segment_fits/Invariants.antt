@@ -4,4 +4,5 @@ use Rattle.segment_check.proofs.segments.segment_fits.Given as goal
 
 abbrev pub invariant-loop-hop : goal.invariant-loop-hop
 invariant-loop-hop l =
-    Walked l.edition (layout_of l.form) l.itinerary l.first l.latest l.path l.segment l.station l.segment_id l.hop
+    let j = l.journey in
+    Walked j.edition (layout_of j.itinerary.form) j.itinerary.bytes.now l.first j.latest j.path.now l.place l.station l.segment_id l.hop

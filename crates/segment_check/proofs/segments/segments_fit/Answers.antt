@@ -12,9 +12,10 @@ use Rattle.segment_check.proofs.segments.segments_fit.Goals as goal
 pub returns : goal.returns
 unfolding infos
 returns c =
-    let a = c.args in
-    let fits : ℕ → ℕ → Bool = λ s first. segment_fits_from a.edition (layout_of a.form) a.itinerary.now first a.earliest a.latest a.path.now s in
+    let j = c.args.journey in
+    let fits : ℕ → ℕ → Bool = λ s first.
+    segment_fits_from j.edition (layout_of j.itinerary.form) j.itinerary.bytes.now first j.earliest j.latest j.path.now s in
     rw (← c.info_field_count.ensures)
-    (all_beside _ c.info_field_count.result c.all.new.self c.all.result a.firsts 0 fits (omega (arith, c.info_field_count.ensures))
+    (all_beside _ c.info_field_count.result c.all.new.self c.all.result c.args.firsts 0 fits (omega (arith, c.info_field_count.ensures))
     c.zip.ensures.first (ap iter_rest c.zip.ensures.second ∙ c.iter.ensures.rest) c.all.ensures.ran (λ x q k. search rules)
     (λ x q k. search rules))
