@@ -9,86 +9,76 @@ ghost use Rattle.segment_check.specs.Segment.{each_below};
 ghost use Rattle.joint_check.specs.Joint.{change_fits};
 ghost use Rattle.joint_check.specs.Inner.{joint_fits_from};
 
-use edition::Edition;
 use hop_check::{arrives_by, leaves_by};
-use interface_table::Listed;
-use records::form::Form;
-use segment_check::hops;
+use interface_table::{is_allowed_pair, link_type};
+use records::Itinerary;
+use segment_check::hops::PathSegment;
+use segment_check::journey::Journey;
 use standard_path::view;
 use station::{lookup, station_record};
 
 // From a hop to the next segment's first, at the station with this record.
+#[tactic(auto, unfolding(crate::specs::Joint::change_fits))]
 fn change_fits(
-    form: Form,
-    itinerary: &[u8],
+    itinerary: Itinerary<'_>,
     station: u32,
     info: &[u8],
     hop: &[u8],
     next_info: &[u8],
     next_hop: &[u8],
 ) -> bool
-    ensures { result ≡ change_fits (station_at (layout_of form) itinerary.now station) info.now hop.now
+    ensures { result ≡ change_fits (station_at (layout_of itinerary.entry.form) itinerary.entry.bytes.now station) info.now hop.now
         next_info.now next_hop.now }
 {
-    let Listed::State(into) = lookup(
-        form,
-        itinerary,
-        station,
-        fields::ingress_interface(hop, info),
-    ) else {
+    let Some(into) = lookup(itinerary, station, fields::ingress_interface(hop, info)) else {
         return false;
     };
-    let Listed::State(out) = lookup(
-        form,
+    let Some(out) = lookup(
         itinerary,
         station,
         fields::egress_interface(next_hop, next_info),
     ) else {
         return false;
     };
-    interface_table::is_allowed_pair(
-        interface_table::link_type(into),
-        interface_table::link_type(out),
-    )
+    is_allowed_pair(link_type(into), link_type(out))
 }
 
 // From a segment to the next, whose first hop is at the station with this record.
-fn joint_fits(
-    form: Form,
-    edition: Edition,
-    itinerary: &[u8],
-    station: u32,
-    path: &[u8],
-    segment: u8,
-) -> bool
-    requires { segment < 3 }
-    ensures { result ≡ joint_fits_from edition (layout_of form) itinerary.now station path.now segment }
+fn joint_fits(journey: Journey<'_>, station: u32, place: u8) -> bool
+    requires { place < 3 }
+    ensures { let j = journey.entry in result ≡ joint_fits_from j.edition (layout_of j.itinerary.form) j.itinerary.bytes.now station
+        j.path.now place }
 {
-    let info = view::info_field(path, segment);
-    let hop = hops::last_hop(path, segment);
-    let next_info = view::info_field(path, segment + 1);
-    let next_hop = hops::first_hop(path, segment + 1);
-    let arrives = arrives_by(form, itinerary, station, next_info, next_hop);
+    let Journey {
+        edition,
+        path,
+        itinerary,
+        ..
+    } = journey;
+    let segment = PathSegment { path, place };
+    let next = PathSegment {
+        path,
+        place: place + 1,
+    };
+    let info = segment.info_field();
+    let hop = segment.last_hop();
+    let next_info = next.info_field();
+    let next_hop = next.first_hop();
+    let arrives = arrives_by(itinerary, station, next_info, next_hop);
     if edition::is_peering_path(edition, path) {
-        let here = station_record(form, itinerary, hops::last_place(path, segment));
-        return leaves_by(form, itinerary, here, info, hop) & arrives;
+        let here = station_record(itinerary, segment.last_place());
+        return leaves_by(itinerary, here, info, hop) & arrives;
     }
-    change_fits(form, itinerary, station, info, hop, next_info, next_hop) & arrives
+    change_fits(itinerary, station, info, hop, next_info, next_hop) & arrives
 }
 
 // Each joint, the first hop of each segment at the station with the record given.
-pub fn joints_fit(
-    form: Form,
-    edition: Edition,
-    itinerary: &[u8],
-    firsts: [u32; 3],
-    path: &[u8],
-) -> bool
-    ensures { result ≡ each_below (infos path.now - 1) (λ s. joint_fits_from edition (layout_of form) itinerary.now
-        (get_or firsts (s + 1) 0) path.now s) }
+pub fn joints_fit(journey: Journey<'_>, firsts: [u32; 3]) -> bool
+    ensures { let j = journey.entry in result ≡ each_below (infos j.path.now - 1) (λ s. joint_fits_from j.edition
+        (layout_of j.itinerary.form) j.itinerary.bytes.now (get_or firsts (s + 1) 0) j.path.now s) }
 {
-    let joints = view::info_field_count(path).saturating_sub(1);
-    (0..joints).zip(firsts[1..].iter()).all(|(segment, first)| joint_fits(
-        form, edition, itinerary, *first, path, segment,
-    ))
+    let joints = view::info_field_count(journey.path).saturating_sub(1);
+    (0..joints)
+        .zip(firsts[1..].iter())
+        .all(|(place, first)| joint_fits(journey, *first, place))
 }

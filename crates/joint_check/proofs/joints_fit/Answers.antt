@@ -24,13 +24,14 @@ all-requires-clause-callable c =
 pub returns : goal.returns
 unfolding infos
 returns c =
-    let a = c.args in
+    let j = c.args.journey in
+    let firsts = c.args.firsts in
     let n = c.saturating_sub-joints.result in
     let few : n ≤ 2 = omega (arith, c.info_field_count.ensures) in
-    let fits : ℕ → ℕ → Bool = λ s first. joint_fits_from a.edition (layout_of a.form) a.itinerary.now first a.path.now s in
-    let behind = take 2 (drop 1 a.firsts) in
-    let long : n ≤ length behind = omega (arith, length-take 2 (drop 1 a.firsts), length-drop 1 a.firsts) in
+    let fits : ℕ → ℕ → Bool = λ s first. joint_fits_from j.edition (layout_of j.itinerary.form) j.itinerary.bytes.now first j.path.now s in
+    let behind = take 2 (drop 1 firsts) in
+    let long : n ≤ length behind = omega (arith, length-take 2 (drop 1 firsts), length-drop 1 firsts) in
     rw (← c.info_field_count.ensures, ← c.saturating_sub-joints.ensures)
     (all_beside _ n c.all.new.self c.all.result behind 0 fits long c.zip.ensures.first
     (ap iter_rest c.zip.ensures.second ∙ c.iter.ensures.rest) c.all.ensures.ran (λ x q k. search rules) (λ x q k. search rules)
-    ∙ all_same n _ _ (λ s l. ap (fits s) (get_or-take 2 (drop 1 a.firsts) s 0 (omega arith) ∙ get_or_after_one a.firsts s 0 ∙ ap (λ i. get_or a.firsts i 0) (add_comm 1 s))))
+    ∙ all_same n _ _ (λ s l. ap (fits s) (get_or-take 2 (drop 1 firsts) s 0 (omega arith) ∙ get_or_after_one firsts s 0 ∙ ap (λ i. get_or firsts i 0) (add_comm 1 s))))
