@@ -1,6 +1,7 @@
 // What the journey check answers.
 ghost use Rattle.std.specs.Prelude.{◌≡◌};
 ghost use Rattle.journey_questions.specs.Questions.{journey_number};
+ghost use Rattle.journey_questions.specs.declared.answer.JourneyError.TheVariants.{HeaderFailed};
 
 use standard_path::view;
 use standard_path::view::HeaderError;
@@ -15,11 +16,18 @@ pub enum JourneyError {
     AlertSet,
 }
 
+impl From<HeaderError> for JourneyError {
+    ghost from_gives = { λ error why. why ≡ HeaderFailed error };
+
+    fn from(error: HeaderError) -> JourneyError {
+        JourneyError::HeaderFailed(error)
+    }
+}
+
 #[derive(Clone, Copy)]
 pub enum Verdict {
     Passed,
     NotPassed,
-    Refused(JourneyError),
 }
 
 // 01's number of a refusal.

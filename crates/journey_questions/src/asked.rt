@@ -7,9 +7,10 @@ ghost use Rattle.itinerary.specs.Itinerary.{itinerary_fits};
 ghost use Rattle.journey_questions.specs.Questions.{station_count, quiet};
 
 use edition::Edition;
-use records::form::Form;
+use segment_check::journey::Journey;
 use standard_path::view;
 
+#[tactic(auto, unfolding(standard_path::specs::Header::infos, standard_path::specs::Header::hops))]
 fn station_count(edition: Edition, path: &[u8]) -> u8
     ensures { result ≡ station_count edition path.now }
 {
@@ -19,18 +20,14 @@ fn station_count(edition: Edition, path: &[u8]) -> u8
     view::hop_field_count(path) - view::info_field_count(path) + 1
 }
 
-pub fn itinerary_fits(
-    form: Form,
-    edition: Edition,
-    itinerary: &[u8],
-    earliest: u32,
-    latest: u32,
-    path: &[u8],
-) -> bool
-    ensures { result ≡
-        (itinerary_fits (layout_of form) itinerary.now (station_count edition path.now) && leb earliest latest) }
+pub fn itinerary_fits(journey: Journey<'_>) -> bool
+    ensures { let j = journey.entry in result ≡
+        (itinerary_fits (layout_of j.itinerary.form) j.itinerary.bytes.now (station_count j.edition j.path.now) && leb j.earliest j.latest) }
 {
-    itinerary::fits(form, itinerary, station_count(edition, path)) & (earliest <= latest)
+    itinerary::fits(
+        journey.itinerary,
+        station_count(journey.edition, journey.path),
+    ) & (journey.earliest <= journey.latest)
 }
 
 pub fn is_at_start(path: &[u8]) -> bool

@@ -6,8 +6,8 @@ ghost use Rattle.journey_questions.specs.Lengths.{long_enough, lengths_fit, leng
 ghost use Rattle.journey_questions.specs.Inner.{first_record, first_records};
 
 use edition::Edition;
-use records::form::Form;
-use segment_check::hops::segment_start;
+use segment_check::hops::PathSegment;
+use segment_check::journey::Journey;
 use standard_path::view;
 use station::station_record;
 
@@ -19,6 +19,7 @@ fn is_long_enough(length: u8) -> bool
     (length == 0) | (2 <= length)
 }
 
+#[tactic(auto, unfolding(crate::specs::Lengths::lengths_fit))]
 fn lengths_fit(path: &[u8]) -> bool
     ensures { result ≡ lengths_fit (seg0_len path.now) (seg1_len path.now) (seg2_len path.now) }
 {
@@ -51,24 +52,23 @@ fn shared_stations(edition: Edition, path: &[u8], segment: u8) -> u8
 }
 
 // The record of the station that a segment's first hop goes to.
-fn first_station(form: Form, edition: Edition, itinerary: &[u8], path: &[u8], segment: u8) -> u32
-    ensures { result ≡ first_record edition (layout_of form) itinerary.now path.now segment }
+fn first_station(journey: Journey<'_>, place: u8) -> u32
+    ensures { let j = journey.entry in result ≡ first_record j.edition (layout_of j.itinerary.form) j.itinerary.bytes.now j.path.now place }
 {
-    let start = segment_start(path, segment);
-    let shared = shared_stations(edition, path, segment);
-    if start < shared {
-        return station_record(form, itinerary, 0);
-    }
-    station_record(form, itinerary, start - shared)
+    let Journey {
+        edition,
+        path,
+        itinerary,
+        ..
+    } = journey;
+    let start = PathSegment { path, place }.start();
+    let shared = shared_stations(edition, path, place);
+    station_record(itinerary, start.saturating_sub(shared))
 }
 
 // The same of each segment.
-pub fn first_stations(form: Form, edition: Edition, itinerary: &[u8], path: &[u8]) -> [u32; 3]
-    ensures { result ≡ first_records edition (layout_of form) itinerary.now path.now }
+pub fn first_stations(journey: Journey<'_>) -> [u32; 3]
+    ensures { let j = journey.entry in result ≡ first_records j.edition (layout_of j.itinerary.form) j.itinerary.bytes.now j.path.now }
 {
-    [
-        first_station(form, edition, itinerary, path, 0),
-        first_station(form, edition, itinerary, path, 1),
-        first_station(form, edition, itinerary, path, 2),
-    ]
+    [0, 1, 2].map(|place| first_station(journey, place))
 }
