@@ -1,3 +1,4 @@
+pub mod Flags
 pub mod FieldOrder
 pub mod FieldSwap
 pub mod ReversedLengths

@@ -61,15 +61,15 @@ pub fn swap_lengths(path: &mut [u8])
 
 // ---- the fields
 
-// Turns C over, the lowest of the flags, in each info field.
-#[tactic(auto, unfolding(crate::specs::Parts::toggle_cons_dirs, crate::specs::Parts::toggle_cons_dir))]
+// Turns C over in each info field.
+#[tactic(auto, using(crate::proofs::Flags::toggled_by_mask), unfolding(crate::specs::Parts::toggle_cons_dirs, crate::specs::Parts::toggle_cons_dir))]
 fn toggle_cons_dirs(path: &mut [u8], infos: u8)
     ensures { path.new ≡ toggle_cons_dirs infos path.old }
 {
     for index in 0..infos {
         let at = InfoFieldLayout::offset(index) + InfoFieldLayout::FLAGS as usize;
         let flags = octets::byte_at(path, at);
-        octets::put_byte(path, at, flags / 2 * 2 + (1 - flags % 2));
+        octets::put_byte(path, at, flags ^ InfoFieldLayout::CONS_DIR);
     }
 }
 
@@ -83,7 +83,7 @@ fn swap_fields(path: &mut [u8], low: usize, high: usize, size: usize)
     front[low..low + size].swap_with_slice(&mut back[..size]);
 }
 
-// Reverses the order of `count` fields, from both ends.
+// Reverses the order of `count` fields, from both ends; `as_chunks_mut` would say nothing of what it leaves in the path.
 fn reverse_fields(path: &mut [u8], at: usize, size: usize, count: u8)
     requires { at + size * count ≤ length path.old }
     ensures { path.new ≡ reverse_fields at size count path.old }
