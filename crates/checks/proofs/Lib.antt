@@ -1,0 +1,2 @@
+pub mod Unasked
+pub mod Read
