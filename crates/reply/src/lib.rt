@@ -1,22 +1,22 @@
 // Answers as numbers, for callers that know no enum of Rattle.
 #![tactic(auto)]
 
-ghost use Rattle.std.specs.Prelude.{◌≡◌, [], ◌∷◌};
-ghost use Rattle.scmp.specs.declared.ScmpError.TheVariants.{NoMessage};
+ghost use Rattle.std.specs.Prelude.{◌≡◌, ◌≤◌, length, get_or, None};
+ghost use Rattle.scmp.specs.Scmp.{scmp_values};
 ghost use Rattle.reply.specs.Reply.{reply, refusal_reply, action_reply, step_reply, ingress_reply};
 ghost use Rattle.reply.specs.Reply.{reversal_reply, expiration_reply, index_reply, segment_reply, journey_reply};
 
-use answers::{AsRoutingAction, IngressNextAction, StandardRoutingError, StepAnswer, number};
-use expiration::PathExpiration;
+use answers::number::Values;
+use answers::{AsRoutingAction, IngressNextAction, StandardRoutingError, number};
 use journey_questions::answer;
-use journey_questions::answer::Verdict;
-use reverse::Reversal;
+use journey_questions::answer::{JourneyError, Verdict};
+use reverse::PathReverseError;
 use scmp::ScmpError;
 use standard_path::view;
-use standard_path::view::{HeaderCheck, SegmentIndex};
+use standard_path::view::{HeaderError, SegmentIndex};
 
 // 01's number for a refusal, one from 100 on for an action; the values it carries, in 01's order, and how many they are;
-// the SCMP error's type (0 for none), code, and pointer or interface.
+// the SCMP error's type (0 for none), code, and pointer or interface. It is numbers, and a count, since C's struct is.
 #[repr(C)]
 #[derive(Clone, Copy)]
 pub struct Reply {
@@ -28,118 +28,129 @@ pub struct Reply {
     pub pointer: u32,
 }
 
-// A reply without an SCMP error.
-fn plain(number: u16, count: u16, values: [u64; 4]) -> Reply
-    ensures { result ≡ record { number = number; count = count; values = values; kind = 0; code = 0; pointer = 0 } }
-{
-    Reply {
-        number,
-        count,
-        values,
-        kind: 0,
-        code: 0,
-        pointer: 0,
+impl Reply {
+    fn new(number: u8, values: Values, error: Option<ScmpError>) -> Reply
+        ensures { result ≡ record {
+          number = number;
+          count = values.count;
+          values = values.places;
+          kind = get_or (scmp_values error) 0 0;
+          code = get_or (scmp_values error) 1 0;
+          pointer = get_or (scmp_values error) 2 0;
+        } }
+    {
+        let Values {
+            count,
+            places: values,
+        } = values;
+        let (kind, code, pointer) = match error {
+            Some(ScmpError::ParameterProblem { code, pointer }) => (4, u8::from(code), pointer),
+            Some(ScmpError::ExternalInterfaceDown { interface_id }) => (
+                5,
+                0,
+                u32::from(interface_id),
+            ),
+            None => (0, 0, 0),
+        };
+        Reply {
+            number: u16::from(number),
+            count: u16::from(count),
+            values,
+            kind,
+            code,
+            pointer,
+        }
     }
 }
 
-fn value_reply(number: u16, value: u64) -> Reply
-    ensures { result ≡ reply number (value ∷ []) NoMessage }
+// Without an SCMP error.
+fn plain(number: u8, values: &[u64]) -> Reply
+    requires { length values.now ≤ 4 }
+    ensures { result ≡ reply number values.now None }
 {
-    plain(number, 1, [value, 0, 0, 0])
+    Reply::new(number, Values::of(values), None)
 }
 
-fn number_reply(number: u16) -> Reply
-    ensures { result ≡ reply number [] NoMessage }
-{
-    plain(number, 0, [0, 0, 0, 0])
-}
+// ---- the step
 
+#[tactic(auto, unfolding(crate::specs::Reply::refusal_reply))]
 fn refusal_reply(why: StandardRoutingError) -> Reply
     ensures { result ≡ refusal_reply why }
 {
-    let number = number::refusal_number(why) as u16;
-    let count = number::refusal_value_count(why) as u16;
-    let values = number::refusal_values(why);
-    match scmp::to_scmp_error(why) {
-        ScmpError::NoMessage => plain(number, count, values),
-        ScmpError::ParameterProblem { code, pointer } => Reply {
-            number,
-            count,
-            values,
-            kind: 4,
-            code,
-            pointer,
-        },
-        ScmpError::ExternalInterfaceDown { interface_id } => Reply {
-            number,
-            count,
-            values,
-            kind: 5,
-            code: 0,
-            pointer: interface_id as u32,
-        },
-    }
+    Reply::new(
+        number::refusal_number(why),
+        number::refusal_values(why),
+        scmp::to_scmp_error(why),
+    )
 }
 
 fn action_reply(action: AsRoutingAction) -> Reply
     ensures { result ≡ action_reply action }
 {
-    plain(
-        number::action_number(action) as u16,
-        number::action_value_count(action) as u16,
+    Reply::new(
+        number::action_number(action),
         number::action_values(action),
+        None,
     )
 }
 
-pub fn step_reply(answer: StepAnswer) -> Reply
+#[tactic(auto, unfolding(crate::specs::Reply::step_reply))]
+pub fn step_reply(answer: Result<AsRoutingAction, StandardRoutingError>) -> Reply
     ensures { result ≡ step_reply answer }
 {
     match answer {
-        StepAnswer::Action(action) => action_reply(action),
-        StepAnswer::Refused(why) => refusal_reply(why),
+        Ok(action) => action_reply(action),
+        Err(why) => refusal_reply(why),
     }
 }
 
-pub fn ingress_reply(answer: IngressNextAction) -> Reply
+#[tactic(auto, unfolding(crate::specs::Reply::ingress_reply))]
+pub fn ingress_reply(answer: Result<IngressNextAction, StandardRoutingError>) -> Reply
     ensures { result ≡ ingress_reply answer }
 {
     match answer {
-        IngressNextAction::ContinueEgress {
-            egress_interface_id,
-        } => value_reply(100, egress_interface_id as u64),
-        IngressNextAction::Complete(action) => action_reply(action),
-        IngressNextAction::Refused(why) => refusal_reply(why),
+        Ok(
+            IngressNextAction::ContinueEgress {
+                egress_interface_id,
+            },
+        ) => plain(100, &[u64::from(egress_interface_id)]),
+        Ok(IngressNextAction::Complete(action)) => action_reply(action),
+        Err(why) => refusal_reply(why),
     }
 }
 
-pub fn reversal_reply(answer: Reversal) -> Reply
+// ---- the other calls
+
+#[tactic(auto, unfolding(crate::specs::Reply::reversal_reply))]
+pub fn reversal_reply(answer: Result<(), PathReverseError>) -> Reply
     ensures { result ≡ reversal_reply answer }
 {
     match answer {
-        Reversal::Reversed => number_reply(110),
-        Reversal::Failed(error) => number_reply(reverse::reverse_number(error) as u16),
+        Ok(()) => plain(110, &[]),
+        Err(error) => plain(reverse::reverse_number(error), &[]),
     }
 }
 
-pub fn expiration_reply(answer: PathExpiration) -> Reply
+#[tactic(auto, unfolding(crate::specs::Reply::expiration_reply))]
+pub fn expiration_reply(answer: Result<u32, HeaderError>) -> Reply
     ensures { result ≡ expiration_reply answer }
 {
     match answer {
-        PathExpiration::At(time) => value_reply(111, time as u64),
-        PathExpiration::Refused(error) => number_reply(view::header_number(error) as u16),
+        Ok(time) => plain(111, &[u64::from(time)]),
+        Err(error) => plain(view::header_number(error), &[]),
     }
 }
 
-fn index_reply(hop_idx: u8, answer: SegmentIndex) -> Reply
+#[tactic(auto, unfolding(crate::specs::Reply::index_reply))]
+fn index_reply(hop_idx: u8, answer: Option<SegmentIndex>) -> Reply
     ensures { result ≡ index_reply hop_idx answer }
 {
     match answer {
-        SegmentIndex::At { index, start, end } => plain(
+        Some(SegmentIndex { index, start, end }) => plain(
             112,
-            3,
-            [index as u64, number::flag(start), number::flag(end), 0],
+            &[u64::from(index), number::flag(start), number::flag(end)],
         ),
-        SegmentIndex::OutOfBounds => value_reply(5, hop_idx as u64),
+        None => plain(5, &[u64::from(hop_idx)]),
     }
 }
 
@@ -147,19 +158,18 @@ pub fn segment_reply(path: &[u8], hop_idx: u8) -> Reply
     ensures { result ≡ segment_reply path.now hop_idx }
 {
     match view::check_header(path) {
-        HeaderCheck::Complete => {
-            index_reply(hop_idx, view::calculate_segment_index(path, hop_idx))
-        }
-        HeaderCheck::Failed(error) => number_reply(view::header_number(error) as u16),
+        Ok(()) => index_reply(hop_idx, view::calculate_segment_index(path, hop_idx)),
+        Err(error) => plain(view::header_number(error), &[]),
     }
 }
 
-pub fn journey_reply(verdict: Verdict) -> Reply
-    ensures { result ≡ journey_reply verdict }
+#[tactic(auto, unfolding(crate::specs::Reply::journey_reply))]
+pub fn journey_reply(answer: Result<Verdict, JourneyError>) -> Reply
+    ensures { result ≡ journey_reply answer }
 {
-    match verdict {
-        Verdict::Passed => number_reply(120),
-        Verdict::NotPassed => number_reply(121),
-        Verdict::Refused(error) => number_reply(answer::journey_number(error) as u16),
+    match answer {
+        Ok(Verdict::Passed) => plain(120, &[]),
+        Ok(Verdict::NotPassed) => plain(121, &[]),
+        Err(error) => plain(answer::journey_number(error), &[]),
     }
 }
