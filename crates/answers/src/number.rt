@@ -101,7 +101,7 @@ pub fn refusal_values(why: StandardRoutingError) -> Values
             u64::from(hop_index),
             u64::from(expected),
             u64::from(found),
-            flag(cons_dir),
+            u64::from(cons_dir),
         ]),
         StandardRoutingError::FutureTimestamp { hop_index } => Values::of(&[u64::from(hop_index)]),
         StandardRoutingError::SegmentExpired { hop_index } => Values::of(&[u64::from(hop_index)]),
@@ -113,17 +113,17 @@ pub fn refusal_values(why: StandardRoutingError) -> Values
         StandardRoutingError::InvalidScmpAlert {
             hop_index,
             cons_dir,
-        } => Values::of(&[u64::from(hop_index), flag(cons_dir)]),
+        } => Values::of(&[u64::from(hop_index), u64::from(cons_dir)]),
         StandardRoutingError::UnknownIngressInterface {
             hop_index,
             if_id,
             cons_dir,
-        } => Values::of(&[u64::from(hop_index), u64::from(if_id), flag(cons_dir)]),
+        } => Values::of(&[u64::from(hop_index), u64::from(if_id), u64::from(cons_dir)]),
         StandardRoutingError::UnknownEgressInterface {
             hop_index,
             if_id,
             cons_dir,
-        } => Values::of(&[u64::from(hop_index), u64::from(if_id), flag(cons_dir)]),
+        } => Values::of(&[u64::from(hop_index), u64::from(if_id), u64::from(cons_dir)]),
         StandardRoutingError::InvalidSegmentChange { hop_index } => Values::of(&[u64::from(
             hop_index,
         )]),
@@ -139,7 +139,7 @@ pub fn refusal_values(why: StandardRoutingError) -> Values
             u64::from(hop_index),
             u64::from(expected),
             u64::from(found),
-            flag(cons_dir),
+            u64::from(cons_dir),
         ]),
     }
 }
