@@ -53,6 +53,7 @@ fn decide_egress(
     Ok(action)
 }
 
+#[tactic(auto, using(moves::proofs::Lent::egress_move_lent))]
 fn egress_here(
     edition: Edition,
     forwarding_key: &ForwardingKey,
@@ -70,6 +71,7 @@ fn egress_here(
 }
 
 // The egress half, with a validator.
+#[tactic(auto, unfolding(crate::specs::Egress::egress), using(place::proofs::Places::asked_yes, place::proofs::Places::placed_by))]
 pub fn advance_egress_with_validator(
     edition: Edition,
     interfaces: InterfaceTable<'_>,
@@ -91,6 +93,7 @@ pub fn advance_egress_with_validator(
 
 // The egress half inside the whole step, where the path is known to stand. An ingress that went on has had a yes to 1 to 4 and to 10 to 12
 // of this hop, and 19 is asked of a call alone.
+#[tactic(auto, using(moves::proofs::Lent::egress_move_lent))]
 pub fn egress_inside(edition: Edition, path: &mut [u8]) -> AsRoutingAction
     ensures value { result ≡ egress_action path.old }
     ensures path_after { path.new ≡ egress_move edition path.old }

@@ -86,6 +86,7 @@ fn decide_ingress(
     Ok(action)
 }
 
+#[tactic(auto, using(moves::proofs::Lent::ingress_move_lent))]
 fn ingress_here(
     edition: Edition,
     interfaces: InterfaceTable<'_>,

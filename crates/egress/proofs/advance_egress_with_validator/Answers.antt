@@ -25,15 +25,3 @@ returns-in_err-locate_egress c =
       ← place,
       c.in_err-locate_egress.was,
     ) (record { value = search rules; path_after = refl })
-
-pub returns : goal.returns
-returns c =
-    let args = c.args in
-    let place = c.locate_egress.ensures ∙ placed_by args.edition args.path.now c.peering_fits-fits.ensures c.crosses-crossing.ensures in
-    rw (
-      egress_told args.edition args.interfaces.ids.now args.interfaces.states.now (key_mac args.forwarding_key.now) args.at args.path.now,
-      ← c.check_before.ensures,
-      c.in_ok-check_before.was,
-      ← place,
-      c.in_ok-locate_egress.was,
-    ) (record { value = c.egress_here.ensures.value; path_after = c.egress_here.ensures.path_after })

@@ -11,16 +11,6 @@ returns-in_err-next_action c =
     rw (← c.standard_path_ingress.ensures.value, ← c.standard_path_ingress.ensures.path_after, c.in_err-next_action.was)
     (record { value = search rules; path_after = refl })
 
-pub returns-in_default : goal.returns-in_default
-unfolding step step_from
-returns-in_default c =
-    rw (
-      ← c.standard_path_ingress.ensures.value,
-      ← c.standard_path_ingress.ensures.path_after,
-      c.in_ok-next_action.was,
-      c.in_default.is,
-    ) (record { value = search rules; path_after = refl })
-
 pub returns-in_err-validate_leaving : goal.returns-in_err-validate_leaving
 returns-in_err-validate_leaving c =
     rw (step_by _ _ _ _ _ _ _ _ _ (sym c.standard_path_ingress.ensures.value ∙ c.in_ok-next_action.was ∙ ap Ok c.in-ContinueEgress.is)
