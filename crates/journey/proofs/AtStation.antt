@@ -8,6 +8,7 @@ use Prim.Native.Nat.{ℕ, ◌+◌, ◌<◌}
 use native.Mathlib.Omega.{arith}
 use borrow.Author.Tests.{le-leb}
 use lib.Dec.{leb}
+use Rattle.std.specs.Prelude.{Option, Some, None, Ok, Err}
 use Rattle.questions.proofs.Asked.{yes_append}
 use Rattle.questions.specs.Questions.{all_yes}
 use Rattle.octets.proofs.Bools.{both, each_of}
@@ -15,14 +16,11 @@ use Rattle.standard_path.specs.Meta.{curr_inf, curr_hf}
 use Rattle.standard_path.specs.Header.{hops, info_field}
 use Rattle.standard_path.proofs.Kept.{kept_self}
 use Rattle.interface_table.specs.Table.{state_of, table_sound}
-use Rattle.interface_table.specs.declared.Listed.{Listed}
-use Rattle.interface_table.specs.declared.Listed.TheVariants.{State, Nothing}
 use Rattle.validator.specs.Check.{is_listed, is_up_listed, key_mac}
 use Rattle.answers.specs.declared.StandardRoutingError.{StandardRoutingError}
 use Rattle.answers.specs.declared.LocalAsRoutingAction.TheVariants.{ForwardLocal}
 use Rattle.answers.specs.declared.AsRoutingAction.TheVariants.{Local, ForwardNextHop}
-use Rattle.answers.specs.declared.StepAnswer.{StepAnswer}
-use Rattle.answers.specs.declared.StepAnswer.TheVariants.{Action, Refused}
+use Rattle.answers.specs.Answer.{StepAnswer}
 use Rattle.edition.specs.declared.Edition.{Edition}
 use Rattle.edition.specs.Edition.{peering_path, peering_fits, peering_questions}
 use Rattle.edition.proofs.Peering.{fits_valid}
@@ -43,20 +41,20 @@ use Rattle.journey.proofs.FirstStation.{first_three, eights, begun, eights_yes, 
 use Rattle.journey.proofs.Stops.{stop_numbers, refused_with, first_refused, peering_refused, Or, or_through}
 use Rattle.journey.proofs.Laws.{hop_good, way_good, change_good, Answered, Laws, Crossing, crossing}
 
-up_is_listed : (listed : Listed) → (is_listed listed && (is_up_listed listed && true)) ≡ is_up_listed listed
-up_is_listed (State state) = and-true _
-up_is_listed Nothing = refl
+up_is_listed : (listed : Option ℕ) → (is_listed listed && (is_up_listed listed && true)) ≡ is_up_listed listed
+up_is_listed (Some state) = and-true _
+up_is_listed None = refl
 
 leaving_yes : (path : List ℕ) (station : Station) (t m : ℕ) (after : List ℕ)
     → all_yes (leaving_tests path station t m after) ≡ leaves_by station (info_field path t) (hop_of path t m)
 unfolding all_yes leaves_by
 leaving_yes path station t m after = up_is_listed (state_of station.ids station.states (way_of path t m))
 
-refused_not_on : (why : StandardRoutingError) → goes_on (Refused why) ≡ false
+refused_not_on : (why : StandardRoutingError) → goes_on (Err why) ≡ false
 unfolding goes_on
 refused_not_on why = refl
 
-refused_not_delivered : (why : StandardRoutingError) → delivers (Refused why) ≡ false
+refused_not_delivered : (why : StandardRoutingError) → delivers (Err why) ≡ false
 unfolding delivers
 refused_not_delivered why = refl
 
@@ -81,15 +79,15 @@ module _ {edition : Edition} {path mid : List ℕ} {t m : ℕ} (g : Given path)
     abbrev leaving_on : Outcome StepAnswer
     leaving_on = leaving_then path station t m entered onward
 
-    middle_through : (holds : StepAnswer → Bool) (none : (why : StandardRoutingError) → holds (Refused why) ≡ false)
+    middle_through : (holds : StepAnswer → Bool) (none : (why : StandardRoutingError) → holds (Err why) ≡ false)
         → holds (step_at edition station reading mid).answer
-        ≡ (hop_good edition path station reading t m && (way_good path station t m && holds (Action (ForwardNextHop (way_of path t m)))))
+        ≡ (hop_good edition path station reading t m && (way_good path station t m && holds (Ok (ForwardNextHop (way_of path t m)))))
     middle_through holds none =
         ap (λ (o : Outcome StepAnswer). holds o.answer) (middle_step g s h r reading more)
         ∙ through holds none (hop_tests edition path station reading t m) entered leaving_on
         ∙ ap (λ (b : Bool). hop_good edition path station reading t m && b)
         (through holds none (leaving_tests path station t m entered) entered onward
-        ∙ ap (λ (b : Bool). b && holds (Action (ForwardNextHop (way_of path t m)))) (leaving_yes path station t m entered))
+        ∙ ap (λ (b : Bool). b && holds (Ok (ForwardNextHop (way_of path t m)))) (leaving_yes path station t m entered))
 
     middle_on : goes_on (step_at edition station reading mid).answer ≡ (hop_good edition path station reading t m && way_good path station t m)
     unfolding goes_on
@@ -143,9 +141,9 @@ module _ {edition : Edition} {path mid : List ℕ} {t m : ℕ} (g : Given path)
 
   -- the last hop of the path
   module _ (e : m + 1 ≡ count_of path t) (f : start_of path t + m + 1 ≡ hops path) where
-    last_through : (holds : StepAnswer → Bool) (none : (why : StandardRoutingError) → holds (Refused why) ≡ false)
+    last_through : (holds : StepAnswer → Bool) (none : (why : StandardRoutingError) → holds (Err why) ≡ false)
         → holds (step_at edition station reading mid).answer
-        ≡ (hop_good edition path station reading t m && holds (Action (Local ForwardLocal)))
+        ≡ (hop_good edition path station reading t m && holds (Ok (Local ForwardLocal)))
     last_through holds none =
         ap (λ (o : Outcome StepAnswer). holds o.answer) (last_step g s h r reading e f)
         ∙ through holds none (hop_tests edition path station reading t m) _ _
@@ -192,10 +190,10 @@ module _ {edition : Edition} {path mid : List ℕ} {t m : ℕ} (g : Given path)
         inside_first (stands_crossed g s h r reading plain e f) plain (behind g s h r reading plain e f).0
         (omega (arith, start_next path t (behind g s h r reading plain e f).0))
 
-    joint_through : (holds : StepAnswer → Bool) (none : (why : StandardRoutingError) → holds (Refused why) ≡ false)
+    joint_through : (holds : StepAnswer → Bool) (none : (why : StandardRoutingError) → holds (Err why) ≡ false)
         → holds (step_at edition station reading mid).answer
         ≡ (change_good edition path station reading t m &&
-        (way_good path station (t + 1) 0 && (leb 2 (count_of path (t + 1)) && holds (Action (ForwardNextHop (way_of path (t + 1) 0))))))
+        (way_good path station (t + 1) 0 && (leb 2 (count_of path (t + 1)) && holds (Ok (ForwardNextHop (way_of path (t + 1) 0))))))
     joint_through holds none =
         ap (λ (o : Outcome StepAnswer). holds o.answer) (joint_step g s h r reading plain e f)
         ∙ through holds none (change_tests edition path station reading t m) crossed leaving_across

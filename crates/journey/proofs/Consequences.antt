@@ -8,6 +8,7 @@ use mathlib.Core.Logic.{inr, ⊎_elim}
 use Prim.Native.Nat.{ℕ, ◌+◌, ◌≤◌}
 use native.Mathlib.Omega.{arith}
 use lib.ListN.{length, replicate}
+use Rattle.std.specs.Prelude.{Ok, Err}
 use Rattle.questions.proofs.Asked.{asks_yes}
 use Rattle.questions.specs.Questions.{all_yes}
 use Rattle.standard_path.specs.Header.{infos, hops}
@@ -16,7 +17,7 @@ use Rattle.edition.specs.Edition.{peering_path}
 use Rattle.records.specs.Layout.{Layout}
 use Rattle.station.specs.Station.{Station}
 use Rattle.itinerary.specs.Itinerary.{stations}
-use Rattle.journey_questions.specs.declared.answer.Verdict.TheVariants.{Passed, Refused}
+use Rattle.journey_questions.specs.declared.answer.Verdict.TheVariants.{Passed}
 use Rattle.journey.specs.Journey.{StationStep, step_at, journey, arrives}
 use Rattle.journey_questions.specs.Questions.{questions}
 use Rattle.journey.specs.Verdict.{journey_check}
@@ -56,10 +57,10 @@ module _ (edition : Edition) (layout : Layout) (itinerary : List ℕ) (earliest 
   -- if it arrives with every clock at the earliest reading, and with every clock at the latest, the check passes
   pub both_pass : arrives (step_at edition) plan (replicate (length plan) earliest) path ≡ true
       → arrives (step_at edition) plan (replicate (length plan) latest) path ≡ true
-      → journey_check edition layout itinerary earliest latest path ≡ Passed
+      → journey_check edition layout itinerary earliest latest path ≡ Ok Passed
   unfolding journey_check
   both_pass early late =
-      asks_yes Refused (questions edition layout itinerary earliest latest path) _ e
+      asks_yes Err (questions edition layout itinerary earliest latest path) _ e
       ∙ rw (two_runs (at_station edition) (asked edition layout itinerary earliest latest path e) early late)
 
   -- a journey that does not arrive ends with a refusal, by 5, 6, 7, 9 to 12, 14 to 18, or, in the second edition, 28

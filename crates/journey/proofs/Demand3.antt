@@ -7,6 +7,7 @@ use mathlib.Core.Logic.{◌↔◌, ◌⊎◌, inl, inr, ⊎_elim}
 use Prim.Native.Nat.{ℕ, suc, ◌+◌, ◌≤◌, ◌<◌}
 use native.Mathlib.Omega.{arith}
 use lib.ListN.{length, get_or, replicate, length-replicate, get_or-replicate}
+use Rattle.std.specs.Prelude.{Result, Ok, Err}
 use Rattle.questions.proofs.Asked.{asks_yes}
 use Rattle.hop_mac.specs.Mac.{mac_chaining_beta}
 use Rattle.fields.specs.Fields.{cons_dir, seg_id}
@@ -18,7 +19,9 @@ use Rattle.edition.specs.declared.Edition.{Edition}
 use Rattle.records.specs.Layout.{Layout}
 use Rattle.station.specs.Station.{Station}
 use Rattle.itinerary.specs.Itinerary.{stations}
-use Rattle.journey_questions.specs.declared.answer.Verdict.TheVariants.{Passed, NotPassed, Refused}
+use Rattle.journey_questions.specs.declared.answer.JourneyError.{JourneyError}
+use Rattle.journey_questions.specs.declared.answer.Verdict.{Verdict}
+use Rattle.journey_questions.specs.declared.answer.Verdict.TheVariants.{Passed, NotPassed}
 use Rattle.segment_check.specs.Segment.{chained_seg_id, macs_from}
 use Rattle.journey.specs.Check.{no_station, passes}
 use Rattle.journey.specs.Journey.{StationStep, journey, ended_well, arrives, Readings, Travels}
@@ -178,13 +181,13 @@ pub demand_3 : (edition : Edition) (layout : Layout) (itinerary : List ℕ) (ear
     → Demand3 edition layout itinerary earliest latest path (journey_check edition layout itinerary earliest latest path)
 unfolding Demand3 journey_check
 demand_3 edition layout itinerary earliest latest path e =
-    let verdict = asks_yes Refused (questions edition layout itinerary earliest latest path)
-    (cond (passes edition (stations layout itinerary) earliest latest path) Passed NotPassed) e in
+    let verdict = asks_yes Err (questions edition layout itinerary earliest latest path)
+    (Ok (cond (passes edition (stations layout itinerary) earliest latest path) Passed NotPassed)) e in
     let theorem = check_travels (at_station edition) (asked edition layout itinerary earliest latest path e) in (
       (λ q. theorem.0 (passed_is (passes edition (stations layout itinerary) earliest latest path) (sym verdict ∙ q))),
       (λ t. verdict ∙ rw (theorem.1 t)),
     )
   where
-    passed_is : (b : Bool) → cond b Passed NotPassed ≡ Passed → b ≡ true
+    passed_is : (b : Bool) → ◌≡◌ {A = Result Verdict JourneyError} (Ok (cond b Passed NotPassed)) (Ok Passed) → b ≡ true
     passed_is true q = refl
-    passed_is false q = let z : ◌≡◌ {A = ℕ} 0 1 = cc in absurd (omega arith)
+    passed_is false q = absurd cc

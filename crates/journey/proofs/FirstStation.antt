@@ -8,12 +8,12 @@ use Prim.Native.Nat.{ℕ, zero, suc, ◌+◌, ◌≤◌, ◌<◌}
 use native.Mathlib.Omega.{arith}
 use borrow.Author.Tests.{eqb-true, eqb-false, not-true, ltb-true, lt-ltb}
 use lib.Dec.{eqb, ltb}
+use Rattle.std.specs.Prelude.{Ok}
 use Rattle.questions.specs.Questions.{all_yes}
 use Rattle.octets.proofs.Bools.{first_of, second_of, other_of}
 use Rattle.standard_path.specs.Meta.{curr_inf, curr_hf, seg0_len, seg1_len}
 use Rattle.standard_path.specs.Header.{infos, hops, segment_of}
 use Rattle.answers.specs.Questions.{Questions, first_no}
-use Rattle.answers.specs.declared.Validation.TheVariants.{Valid}
 use Rattle.answers.specs.declared.StandardRoutingError.TheVariants.{AdvanceFailed}
 use Rattle.answers.specs.declared.AdvanceError.TheVariants.{HopOutOfBounds, SingleHopSegment, InvalidSegmentIndex, InfoOutOfBounds}
 use Rattle.answers.proofs.Asked.{both_yes, none_asked}
@@ -72,7 +72,7 @@ module _ (edition : Edition) (path : List ℕ) (hf : curr_hf path ≡ 0) (inf : 
           omega (arith, some, eqb-false (0 + 1) (seg0_len path) not_ended)
 
   -- 8 is then answered yes
-  pub eights_yes : Begun edition path → first_no (eights edition path) ≡ Valid
+  pub eights_yes : Begun edition path → first_no (eights edition path) ≡ Ok tt
   unfolding infos
   eights_yes b =
       both_yes _ _ _ (rw inf (lt-ltb 0 (infos path) (omega (arith, b.some))))
@@ -86,7 +86,7 @@ module _ (edition : Edition) (path : List ℕ) (hf : curr_hf path ≡ 0) (inf : 
       stays true e true p = rw (p, hf, e)
       stays true e false p = absurd (omega (arith, eqb-true (0 + 1) (seg0_len path) e, b.two p))
 
-  pub first_hop : Begun edition path → first_no (peering_questions edition path) ≡ Valid → Hop edition path 0 0
+  pub first_hop : Begun edition path → first_no (peering_questions edition path) ≡ Ok tt → Hop edition path 0 0
   first_hop b fits = record {
     third = omega arith;
     long = long 1 b.some;

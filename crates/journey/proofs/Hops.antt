@@ -7,12 +7,12 @@ use Prim.Native.Nat.{ℕ, zero, suc, ◌+◌, ◌≤◌, ◌<◌}
 use native.Mathlib.Omega.{arith}
 use borrow.Author.Tests.{eqb-true, eqb-false, eq-eqb, ne_eqb, ltb-true, ltb-false, lt-ltb, le-ltb, le-leb, lt-leb, leb-true, leb-false}
 use lib.Dec.{eqb, ltb, leb}
+use Rattle.std.specs.Prelude.{Ok}
 use Rattle.questions.specs.Questions.{all_yes}
 use Rattle.standard_path.specs.Meta.{curr_inf, curr_hf, seg0_len, seg1_len, seg2_len}
 use Rattle.standard_path.specs.Header.{infos, hops, segment_of, segment_end}
 use Rattle.standard_path.proofs.Kept.{infos_kept, hops_kept}
 use Rattle.answers.specs.Questions.{first_no}
-use Rattle.answers.specs.declared.Validation.TheVariants.{Valid}
 use Rattle.answers.proofs.Asked.{both_yes, none_asked}
 use Rattle.edition.specs.declared.Edition.{Edition}
 use Rattle.edition.specs.Edition.{peering_path, first_peering_hop, peering_questions}
@@ -31,7 +31,7 @@ pub record Hop (edition : Edition) (path : List ℕ) (t m : ℕ) : Type 0 where
   pub long : (u : ℕ) → u ≤ t → 1 ≤ count_of path u
   pub double : peering_path edition path ≡ false → (u : ℕ) → u ≤ t → 2 ≤ count_of path u
   pub within : m < count_of path t
-  pub fits : first_no (peering_questions edition path) ≡ Valid
+  pub fits : first_no (peering_questions edition path) ≡ Ok tt
   pub back : peering_hop_of edition path t m ≡ false → m ≡ 0 → t ≡ 0
 
 module _ (path : List ℕ) where
@@ -185,7 +185,7 @@ kind edition path t m h =
 
 -- what the step finds out about the place
 pub record Placed (edition : Edition) (mid : List ℕ) (change final : Bool) : Type 0 where
-  pub valid : first_no (ingress_place edition mid) ≡ Valid
+  pub valid : first_no (ingress_place edition mid) ≡ Ok tt
   pub changing : changes edition mid ≡ change
   pub ending : is_final mid ≡ final
 
@@ -248,7 +248,7 @@ module _ {edition : Edition} {path mid : List ℕ} {t m value : ℕ} (s : Stands
           rw (changing (joint p e f), at_segment s h.third h.within, infos_kept s.kept)
           (lt-ltb _ _ (next_in_header path t h.third h.long (omega arith)).1)
 
-      valid : first_no (ingress_place edition mid) ≡ Valid
+      valid : first_no (ingress_place edition mid) ≡ Ok tt
       valid =
           both_yes _ _ _ (lt-ltb _ _ among)
           (both_yes _ _ _ (rw (peering_path_here s, at_starts s h.third h.within)
@@ -260,7 +260,7 @@ module _ {edition : Edition} {path mid : List ℕ} {t m value : ℕ} (s : Stands
 
 module _ {edition : Edition} {path mid : List ℕ} {t m value : ℕ} (s : Stands edition path mid t m value) (t3 : t < 3) where
   -- on the way on nothing
-  pub inside_onward : m < count_of path t → Onward edition path t m → first_no (inside_questions edition mid) ≡ Valid
+  pub inside_onward : m < count_of path t → Onward edition path t m → first_no (inside_questions edition mid) ≡ Ok tt
   inside_onward within o =
       both_yes _ _ _ (eq-eqb _ _ (at_segment s t3 within ∙ sym s.inf))
       (both_yes _ _ _ (rw (at_final s t3 within false (before o))) (both_yes _ _ _ (going o) none_asked))

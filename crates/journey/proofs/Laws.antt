@@ -13,7 +13,7 @@ use Rattle.octets.proofs.Bools.{each_of}
 use Rattle.standard_path.specs.Meta.{curr_inf, curr_hf}
 use Rattle.standard_path.specs.Header.{info_field}
 use Rattle.interface_table.specs.Table.{table_sound}
-use Rattle.answers.specs.declared.StepAnswer.{StepAnswer}
+use Rattle.answers.specs.Answer.{StepAnswer}
 use Rattle.answers.specs.Outcome.{Outcome}
 use Rattle.edition.specs.declared.Edition.{Edition}
 use Rattle.station.specs.Station.{Station}

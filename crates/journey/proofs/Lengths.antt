@@ -8,11 +8,11 @@ use native.Mathlib.Omega.{arith}
 use borrow.Author.Tests.{eqb-true, eq-eqb, ne_eqb, le-leb, leb-true, not-true}
 use lib.Dec.{eqb, leb}
 use lib.ListN.{length}
+use Rattle.std.specs.Prelude.{Ok}
 use Rattle.octets.proofs.Bools.{both, each_of, each_of_4, either, other_of}
 use Rattle.standard_path.specs.Meta.{seg0_len, seg1_len, seg2_len}
 use Rattle.standard_path.specs.Header.{infos, hops}
 use Rattle.answers.specs.Questions.{first_no}
-use Rattle.answers.specs.declared.Validation.TheVariants.{Valid}
 use Rattle.edition.specs.declared.Edition.{Edition}
 use Rattle.edition.specs.Edition.{peering_path, peering_questions}
 use Rattle.station.specs.Station.{Station}
@@ -97,7 +97,7 @@ module _ {edition : Edition} {path : List ℕ} where
   some_infos (linked p) = omega (arith, linked_infos edition path p)
 
   -- the path's first hop
-  pub first_of_shape : Shape edition path → first_no (peering_questions edition path) ≡ Valid → Hop edition path 0 0
+  pub first_of_shape : Shape edition path → first_no (peering_questions edition path) ≡ Ok tt → Hop edition path 0 0
   first_of_shape shape fits = record {
     third = omega arith;
     long = λ u l. all_long shape u (omega (arith, some_infos shape));

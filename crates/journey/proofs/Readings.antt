@@ -6,16 +6,15 @@ use mathlib.Core.List.{List, [], ◌∷◌}
 use Prim.Native.Nat.{ℕ, suc, ◌≤◌}
 use native.Mathlib.Omega.{arith}
 use lib.Dec.{eqb}
+use Rattle.std.specs.Prelude.{Result, Ok, Err}
 use Rattle.answers.proofs.Asked.{told}
 use Rattle.octets.proofs.Bools.{first_of}
 use Rattle.fields.specs.Fields.{cons_dir, travel_egress, travel_egress_alert}
 use Rattle.answers.specs.Questions.{first_no}
-use Rattle.answers.specs.declared.Validation.{Validation}
-use Rattle.answers.specs.declared.Validation.TheVariants.{Valid, Invalid}
+use Rattle.answers.specs.declared.StandardRoutingError.{StandardRoutingError}
 use Rattle.answers.specs.declared.LocalAsRoutingAction.TheVariants.{IngressSCMPHandleRequest, EgressSCMPHandleRequest, ForwardLocal}
 use Rattle.answers.specs.declared.AsRoutingAction.TheVariants.{Local, ForwardNextHop}
-use Rattle.answers.specs.declared.StepAnswer.{StepAnswer}
-use Rattle.answers.specs.declared.StepAnswer.TheVariants.{Action, Refused}
+use Rattle.answers.specs.Answer.{StepAnswer}
 use Rattle.edition.specs.declared.Edition.{Edition}
 use Rattle.answers.specs.Outcome.{Outcome, leaves}
 use Rattle.place.specs.Place.{before, changes, is_final, ingress_place, hop, info}
@@ -30,17 +29,17 @@ use Rattle.journey.specs.Journey.{StationStep, step_at, ended_at, goes_on, some_
 
 -- an answer that egress gave, with its move done
 abbrev pub left_by_egress : StepAnswer → Bool
-left_by_egress (Action (ForwardNextHop interface)) = true
-left_by_egress (Action (Local (EgressSCMPHandleRequest interface))) = true
-left_by_egress (Action (Local (IngressSCMPHandleRequest interface))) = false
-left_by_egress (Action (Local ForwardLocal)) = false
-left_by_egress (Refused why) = false
+left_by_egress (Ok (ForwardNextHop interface)) = true
+left_by_egress (Ok (Local (EgressSCMPHandleRequest interface))) = true
+left_by_egress (Ok (Local (IngressSCMPHandleRequest interface))) = false
+left_by_egress (Ok (Local ForwardLocal)) = false
+left_by_egress (Err why) = false
 
 -- the bytes left, told by the station, the path and the answer
-abbrev bytes_after : Validation → Validation → List ℕ → List ℕ → List ℕ → Bool → List ℕ
-bytes_after Valid Valid path entered moved egressed = cond egressed moved entered
-bytes_after Valid (Invalid why) path entered moved egressed = path
-bytes_after (Invalid why) place path entered moved egressed = path
+abbrev bytes_after : Result Unit StandardRoutingError → Result Unit StandardRoutingError → List ℕ → List ℕ → List ℕ → Bool → List ℕ
+bytes_after (Ok _) (Ok _) path entered moved egressed = cond egressed moved entered
+bytes_after (Ok _) (Err why) path entered moved egressed = path
+bytes_after (Err why) place path entered moved egressed = path
 
 abbrev pub left_bytes : Edition → Station → List ℕ → StepAnswer → List ℕ
 left_bytes edition station path answer =
@@ -49,15 +48,15 @@ left_bytes edition station path answer =
     (egress_move edition entered)
     (left_by_egress answer)
 
-egress_action_leaves : (path : List ℕ) → left_by_egress (egress_action path) ≡ true
+egress_action_leaves : (path : List ℕ) → left_by_egress (Ok (egress_action path)) ≡ true
 unfolding leaving_action
 egress_action_leaves path =
     go (travel_egress_alert (cons_dir (info path)) (hop path)) (eqb (travel_egress (cons_dir (info path)) (hop path)) 0)
   where
     go : (alert none : Bool)
         → left_by_egress
-        (cond (alert && not none) (Action (Local (EgressSCMPHandleRequest (travel_egress (cons_dir (info path)) (hop path)))))
-        (Action (ForwardNextHop (travel_egress (cons_dir (info path)) (hop path)))))
+        (Ok (cond (alert && not none) (Local (EgressSCMPHandleRequest (travel_egress (cons_dir (info path)) (hop path))))
+        (ForwardNextHop (travel_egress (cons_dir (info path)) (hop path)))))
         ≡ true
     go true true = refl
     go true false = refl
@@ -77,32 +76,33 @@ bytes_by_answer edition station reading path =
     (first_no (checks edition ids states mac interface reading false path)) (alerts_at_ingress path interface) (is_final path)
     (first_no (leaving_checks edition ids states mac interface reading false path)) (first_no (inside_questions edition entered)))
   where
-    go : (entered : List ℕ) (first place passed : Validation) (alert final : Bool) (leaving inside : Validation)
+    go : (entered : List ℕ) (first place passed : Result Unit StandardRoutingError) (alert final : Bool)
+        (leaving inside : Result Unit StandardRoutingError)
         → let outcome : Outcome StepAnswer =
-        told (leaves Refused path) first
-        (told (leaves Refused path) place
-        (told (leaves Refused entered) passed
-        (cond alert (record { answer = Action (Local (IngressSCMPHandleRequest station.arrival)); bytes = entered })
-        (cond final (record { answer = Action (Local ForwardLocal); bytes = entered })
-        (told (leaves Refused entered) leaving
-        (told (leaves Refused entered) inside (record { answer = egress_action entered; bytes = egress_move edition entered }))))))) in
+        told (leaves Err path) first
+        (told (leaves Err path) place
+        (told (leaves Err entered) passed
+        (cond alert (record { answer = Ok (Local (IngressSCMPHandleRequest station.arrival)); bytes = entered })
+        (cond final (record { answer = Ok (Local ForwardLocal); bytes = entered })
+        (told (leaves Err entered) leaving
+        (told (leaves Err entered) inside (record { answer = Ok (egress_action entered); bytes = egress_move edition entered }))))))) in
         outcome.bytes ≡ bytes_after first place path entered (egress_move edition entered) (left_by_egress outcome.answer)
-    go entered (Invalid why) place passed alert final leaving inside = refl
-    go entered Valid (Invalid why) passed alert final leaving inside = refl
-    go entered Valid Valid (Invalid why) alert final leaving inside = refl
-    go entered Valid Valid Valid true final leaving inside = refl
-    go entered Valid Valid Valid false true leaving inside = refl
-    go entered Valid Valid Valid false false (Invalid why) inside = refl
-    go entered Valid Valid Valid false false Valid (Invalid why) = refl
-    go entered Valid Valid Valid false false Valid Valid = rw (egress_action_leaves entered)
+    go entered (Err why) place passed alert final leaving inside = refl
+    go entered (Ok _) (Err why) passed alert final leaving inside = refl
+    go entered (Ok _) (Ok _) (Err why) alert final leaving inside = refl
+    go entered (Ok _) (Ok _) (Ok _) true final leaving inside = refl
+    go entered (Ok _) (Ok _) (Ok _) false true leaving inside = refl
+    go entered (Ok _) (Ok _) (Ok _) false false (Err why) inside = refl
+    go entered (Ok _) (Ok _) (Ok _) false false (Ok _) (Err why) = refl
+    go entered (Ok _) (Ok _) (Ok _) false false (Ok _) (Ok _) = rw (egress_action_leaves entered)
 
 -- ---- along a journey
 
 on_leaves : (answer : StepAnswer) → goes_on answer ≡ true → left_by_egress answer ≡ true
 unfolding goes_on
-on_leaves (Action (ForwardNextHop interface)) e = refl
-on_leaves (Action (Local action)) e = let z : ◌≡◌ {A = ℕ} 0 1 = cc in absurd (omega arith)
-on_leaves (Refused why) e = let z : ◌≡◌ {A = ℕ} 0 1 = cc in absurd (omega arith)
+on_leaves (Ok (ForwardNextHop interface)) e = refl
+on_leaves (Ok (Local action)) e = absurd cc
+on_leaves (Err why) e = absurd cc
 
 -- of a step: one answer leaves the same bytes whatever the reading, and so do two that go on
 pub record ByAnswer (at : StationStep) : Type 0 where
@@ -126,8 +126,8 @@ by_answer edition = record {
 ends_behind : (at : StationStep) (stations : List Station) (readings : List ℕ) (k : ℕ) (path : List ℕ) {j : ℕ} {answer : StepAnswer}
     {left : List ℕ} → journey at k stations readings path ≡ ended_at j answer left → k ≤ j
 unfolding journey
-ends_behind at [] readings k path e = let z : ◌≡◌ {A = ℕ} 0 1 = cc in absurd (omega arith)
-ends_behind at (station ∷ stations) [] k path e = let z : ◌≡◌ {A = ℕ} 0 1 = cc in absurd (omega arith)
+ends_behind at [] readings k path e = absurd cc
+ends_behind at (station ∷ stations) [] k path e = absurd cc
 ends_behind at (station ∷ stations) (reading ∷ readings) k path {j} {answer} {left} e =
     go (goes_on (at station reading path).answer && some_left stations)
     (λ q. ends_behind at stations readings (suc k) (at station reading path).bytes q) e
@@ -143,9 +143,9 @@ answered_bytes : {at : StationStep} → ByAnswer at → (stations : List Station
     {answer : StepAnswer} {left1 left2 : List ℕ} → journey at k stations first path ≡ ended_at j answer left1
     → journey at k stations second path ≡ ended_at j answer left2 → left1 ≡ left2
 unfolding journey
-answered_bytes l [] first second k path e f = let z : ◌≡◌ {A = ℕ} 0 1 = cc in absurd (omega arith)
-answered_bytes l (station ∷ stations) [] second k path e f = let z : ◌≡◌ {A = ℕ} 0 1 = cc in absurd (omega arith)
-answered_bytes l (station ∷ stations) (reading ∷ first) [] k path e f = let z : ◌≡◌ {A = ℕ} 0 1 = cc in absurd (omega arith)
+answered_bytes l [] first second k path e f = absurd cc
+answered_bytes l (station ∷ stations) [] second k path e f = absurd cc
+answered_bytes l (station ∷ stations) (reading ∷ first) [] k path e f = absurd cc
 answered_bytes {at} l (station ∷ stations) (reading1 ∷ first) (reading2 ∷ second) k path {j} {answer} {left1} {left2} e f =
     go (goes_on (at station reading1 path).answer && some_left stations) refl
     (goes_on (at station reading2 path).answer && some_left stations) refl

@@ -7,6 +7,7 @@ use Prim.Native.Nat.{ℕ, zero, suc, ◌+◌, ◌-◌, ◌≤◌, ◌<◌}
 use native.Mathlib.Omega.{arith}
 use borrow.Author.Tests.{le-leb}
 use lib.ListN.{length}
+use Rattle.std.specs.Prelude.{Ok, Err}
 use Rattle.questions.specs.Questions.{asks}
 use Rattle.hop_mac.specs.Mac.{mac_chaining_beta}
 use Rattle.standard_path.specs.Meta.{curr_inf, curr_hf, set_curr_inf, set_curr_hf}
@@ -17,11 +18,9 @@ use Rattle.interface_table.specs.Table.{table_sound, state_of}
 use Rattle.answers.specs.Questions.{Questions, first_no}
 use Rattle.validator.specs.Check.{hop_questions, link_questions, key_mac, at_ingress}
 use Rattle.answers.specs.declared.StandardRoutingError.{StandardRoutingError}
-use Rattle.answers.specs.declared.Validation.TheVariants.{Valid}
 use Rattle.answers.specs.declared.LocalAsRoutingAction.TheVariants.{ForwardLocal}
 use Rattle.answers.specs.declared.AsRoutingAction.TheVariants.{Local, ForwardNextHop}
-use Rattle.answers.specs.declared.StepAnswer.{StepAnswer}
-use Rattle.answers.specs.declared.StepAnswer.TheVariants.{Action, Refused}
+use Rattle.answers.specs.Answer.{StepAnswer}
 use Rattle.answers.proofs.Asked.{both_yes, none_asked, told}
 use Rattle.answers.specs.Outcome.{Outcome, leaves}
 use Rattle.edition.specs.declared.Edition.{Edition}
@@ -60,7 +59,7 @@ at_first path (suc t) m z e = absurd (omega arith)
 
 -- 1 to 4 are answered yes all the way
 pub before_asked : {path mid : List ℕ} (ids states : List ℕ) → Given path → Kept path mid → table_sound ids states ≡ true
-    → first_no (before ids states mid) ≡ Valid
+    → first_no (before ids states mid) ≡ Ok tt
 unfolding header_size
 before_asked {path} ids states g kept sound =
     both_yes _ _ _ sound
@@ -106,17 +105,17 @@ crossed_at edition mid station = set_curr_inf (set_curr_hf (entered_at edition m
 
 -- on the way out from hop m of segment t: forwarded; then with what is left to ask at egress, and with 15 and 17
 abbrev pub forwarded : Edition → List ℕ → ℕ → ℕ → List ℕ → Outcome StepAnswer
-forwarded edition path t m left = record { answer = Action (ForwardNextHop (way_of path t m)); bytes = egress_move edition left }
+forwarded edition path t m left = record { answer = Ok (ForwardNextHop (way_of path t m)); bytes = egress_move edition left }
 
 abbrev pub inside_then : Edition → List ℕ → Outcome StepAnswer → Outcome StepAnswer
-inside_then edition left more = told (leaves Refused left) (first_no (inside_questions edition left)) more
+inside_then edition left more = told (leaves Err left) (first_no (inside_questions edition left)) more
 
 abbrev pub leaving_then : List ℕ → Station → ℕ → ℕ → List ℕ → Outcome StepAnswer → Outcome StepAnswer
-leaving_then path station t m left more = told (leaves Refused left) (first_no (leaving_tests path station t m left)) more
+leaving_then path station t m left more = told (leaves Err left) (first_no (leaving_tests path station t m left)) more
 
 -- a path that stands at a hop without alerts is forwarded
 goes_out : {edition : Edition} {path mid : List ℕ} {t m value : ℕ} → Stands edition path mid t m value → Quiet (hop_of path t m)
-    → egress_action mid ≡ Action (ForwardNextHop (way_of path t m))
+    → egress_action mid ≡ ForwardNextHop (way_of path t m)
 unfolding leaving_action
 goes_out {path = path} {t = t} s q = rw (hop_here s, dir_here s, quiet_egress q (cons_dir (info_field path t)))
 
@@ -142,7 +141,7 @@ module _ {edition : Edition} {path mid : List ℕ} {t m : ℕ} (g : Given path)
       enters g.room inside s quiet_here station.arrival (λ p z. r.local (at_first path t m (h.back p z) z))
       (λ l. r.outside (omega arith))
 
-  before_valid : first_no (before station.ids station.states mid) ≡ Valid
+  before_valid : first_no (before station.ids station.states mid) ≡ Ok tt
   before_valid = before_asked station.ids station.states g s.kept r.sound
 
   start_here : timestamp (info mid) ≡ timestamp (info_field path t)
@@ -165,7 +164,7 @@ module _ {edition : Edition} {path mid : List ℕ} {t m : ℕ} (g : Given path)
 
   module _ (more : Onward edition path t m) where
     pub middle_step : step_at edition station reading mid
-        ≡ told (leaves Refused after) (first_no (hop_tests edition path station reading t m))
+        ≡ told (leaves Err after) (first_no (hop_tests edition path station reading t m))
         (leaving_then path station t m after (forwarded edition path t m after))
     unfolding step_at ingress_move
     middle_step =
@@ -184,7 +183,7 @@ module _ {edition : Edition} {path mid : List ℕ} {t m : ℕ} (g : Given path)
 
   pub last_step : m + 1 ≡ count_of path t → start_of path t + m + 1 ≡ hops path
       → step_at edition station reading mid
-      ≡ told (leaves Refused after) (first_no (hop_tests edition path station reading t m)) (record { answer = Action (Local ForwardLocal); bytes = after })
+      ≡ told (leaves Err after) (first_no (hop_tests edition path station reading t m)) (record { answer = Ok (Local ForwardLocal); bytes = after })
   unfolding step_at ingress_move
   last_step e f =
       let p = placed s h (last e f) in
@@ -235,7 +234,7 @@ module _ {edition : Edition} {path mid : List ℕ} {t m : ℕ} (g : Given path)
         (without_yes (hop_tests edition path station reading t m) _ _ ∙ without_yes (hop_tests edition path station reading t m) _ _))
 
     pub joint_step : step_at edition station reading mid
-        ≡ told (leaves Refused crossed) (first_no (change_tests edition path station reading t m))
+        ≡ told (leaves Err crossed) (first_no (change_tests edition path station reading t m))
         (leaving_then path station (t + 1) 0 crossed (inside_then edition crossed (forwarded edition path (t + 1) 0 crossed)))
     unfolding step_at ingress_move
     joint_step =

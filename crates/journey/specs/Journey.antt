@@ -1,11 +1,10 @@
 -- 01, 'The journey, written out'. A journey runs the whole step at one station after the other, each on the bytes that the
 -- one before left.
 -- Assumes nothing.
-use Rattle.std.specs.Prelude.{ℕ, suc, ◌≤◌, ◌<◌, ◌≡◌, Bool, true, false, ◌&&◌, List, [], ◌∷◌, eqb, length, get_or}
+use Rattle.std.specs.Prelude.{ℕ, suc, ◌≤◌, ◌<◌, ◌≡◌, Bool, true, false, ◌&&◌, List, [], ◌∷◌, eqb, length, get_or, Ok, Err}
 use Rattle.answers.specs.declared.LocalAsRoutingAction.TheVariants.{IngressSCMPHandleRequest, EgressSCMPHandleRequest, ForwardLocal}
 use Rattle.answers.specs.declared.AsRoutingAction.TheVariants.{Local, ForwardNextHop}
-use Rattle.answers.specs.declared.StepAnswer.{StepAnswer}
-use Rattle.answers.specs.declared.StepAnswer.TheVariants.{Action, Refused}
+use Rattle.answers.specs.Answer.{StepAnswer}
 use Rattle.answers.specs.Outcome.{Outcome}
 use Rattle.validator.specs.Check.{key_mac}
 use Rattle.routing.specs.Step.{step}
@@ -29,9 +28,9 @@ pub data Ended : Type 0 where
 
 -- 'After ForwardNextHop the bytes left go to the next station .. Any other answer, each refusal among them, ends the journey there.'
 unfoldable pub goes_on : StepAnswer → Bool
-goes_on (Action (ForwardNextHop interface)) = true
-goes_on (Action (Local action)) = false
-goes_on (Refused why) = false
+goes_on (Ok (ForwardNextHop interface)) = true
+goes_on (Ok (Local action)) = false
+goes_on (Err why) = false
 
 -- 'the next station, if there is one'
 abbrev pub some_left : List Station → Bool
@@ -52,11 +51,11 @@ journey at k (station ∷ route) (reading ∷ readings) path =
     or_ends (goes_on outcome.answer && some_left route) k outcome (journey at (suc k) route readings outcome.bytes)
 
 unfoldable pub delivers : StepAnswer → Bool
-delivers (Action (ForwardNextHop interface)) = false
-delivers (Action (Local ForwardLocal)) = true
-delivers (Action (Local (IngressSCMPHandleRequest interface))) = false
-delivers (Action (Local (EgressSCMPHandleRequest interface))) = false
-delivers (Refused why) = false
+delivers (Ok (ForwardNextHop interface)) = false
+delivers (Ok (Local ForwardLocal)) = true
+delivers (Ok (Local (IngressSCMPHandleRequest interface))) = false
+delivers (Ok (Local (EgressSCMPHandleRequest interface))) = false
+delivers (Err why) = false
 
 -- 'every station but the last answers ForwardNextHop and the last ForwardLocal': it ended at the last of so many, which delivers
 unfoldable pub ended_well : ℕ → Ended → Bool
