@@ -1,75 +1,62 @@
 // The journey check: 01's questions 2 to 4 and 23 to 25, then the conditions of a pass.
-ghost use Rattle.std.specs.Prelude.{◌≡◌, cond, length, drop};
-ghost use Rattle.questions.specs.Questions.{asks};
+ghost use Rattle.std.specs.Prelude.{◌≡◌, length};
 ghost use Rattle.records.specs.Layout.{narrow, layout_of};
 ghost use Rattle.itinerary.specs.Itinerary.{stations};
 ghost use Rattle.journey.specs.Check.{passes};
-ghost use Rattle.journey_questions.specs.Questions.{station_count, questions};
+ghost use Rattle.journey_questions.specs.Questions.{station_count};
 ghost use Rattle.journey.specs.Verdict.{journey_check, Demand3};
-ghost use Rattle.journey_questions.specs.declared.answer.Verdict.TheVariants.{Passed, NotPassed, Refused};
 
 use edition::Edition;
 use joint_check::joints_fit;
 use journey_questions::answer::{JourneyError, Verdict};
 use journey_questions::asked::{is_at_start, is_quiet, itinerary_fits};
 use journey_questions::segments::{first_stations, lengths_pass};
+use records::Itinerary;
 use records::form::Form;
+use segment_check::journey::Journey;
 use segment_check::segments::segments_fit;
 use standard_path::view;
-use standard_path::view::HeaderCheck;
 
 // ---- the conditions of a pass
 
-fn passes(
-    form: Form,
-    edition: Edition,
-    itinerary: &[u8],
-    earliest: u32,
-    latest: u32,
-    path: &[u8],
-) -> bool
-    requires { length (stations (layout_of form) itinerary.now) ≡ station_count edition path.now }
-    ensures { result ≡ passes edition (stations (layout_of form) itinerary.now) earliest latest path.now }
+#[tactic(auto, unfolding(journey::specs::Check::passes))]
+fn passes(journey: Journey<'_>) -> bool
+    requires { length (stations (layout_of journey.itinerary.form) journey.itinerary.bytes.now) ≡ station_count journey.edition journey.path.now }
+    ensures { let j = journey.entry in result ≡ passes j.edition (stations (layout_of j.itinerary.form) j.itinerary.bytes.now)
+        j.earliest j.latest j.path.now }
 {
-    if !edition::peering_fits(edition, path) {
+    if !edition::peering_fits(journey.edition, journey.path) {
         return false;
     }
-    if !lengths_pass(edition, path) {
+    if !lengths_pass(journey.edition, journey.path) {
         return false;
     }
-    let firsts = first_stations(form, edition, itinerary, path);
-    segments_fit(form, edition, itinerary, firsts, earliest, latest, path)
-        & joints_fit(form, edition, itinerary, firsts, path)
+    let firsts = first_stations(journey);
+    segments_fit(journey, firsts) & joints_fit(journey, firsts)
 }
 
 // ---- the questions
 
-// Questions 23 to 25, and what comes after them.
-fn check_complete(
-    form: Form,
-    edition: Edition,
-    path: &[u8],
-    itinerary: &[u8],
-    earliest: u32,
-    latest: u32,
-) -> Verdict
-    ensures { result ≡ asks Refused
-        (drop 3 (questions edition (layout_of form) itinerary.now earliest latest path.now))
-        (cond (passes edition (stations (layout_of form) itinerary.now) earliest latest path.now) Passed NotPassed) }
+// In any form of the itinerary.
+#[tactic(auto, using(crate::proofs::Verdicts::check_asked), unfolding(questions::specs::Questions::asks))]
+fn check(journey: Journey<'_>) -> Result<Verdict, JourneyError>
+    ensures { let j = journey.entry in result ≡ journey_check j.edition (layout_of j.itinerary.form) j.itinerary.bytes.now
+        j.earliest j.latest j.path.now }
 {
-    if !itinerary_fits(form, edition, itinerary, earliest, latest, path) {
-        return Verdict::Refused(JourneyError::UnfitItinerary);
+    view::check_header(journey.path)?;
+    if !itinerary_fits(journey) {
+        return Err(JourneyError::UnfitItinerary);
     }
-    if !is_at_start(path) {
-        return Verdict::Refused(JourneyError::NotAtStart);
+    if !is_at_start(journey.path) {
+        return Err(JourneyError::NotAtStart);
     }
-    if !is_quiet(path) {
-        return Verdict::Refused(JourneyError::AlertSet);
+    if !is_quiet(journey.path) {
+        return Err(JourneyError::AlertSet);
     }
-    if passes(form, edition, itinerary, earliest, latest, path) {
-        Verdict::Passed
+    if passes(journey) {
+        Ok(Verdict::Passed)
     } else {
-        Verdict::NotPassed
+        Ok(Verdict::NotPassed)
     }
 }
 
@@ -79,14 +66,19 @@ pub fn check_journey(
     itinerary: &[u8],
     earliest: u32,
     latest: u32,
-) -> Verdict
+) -> Result<Verdict, JourneyError>
     ensures value { result ≡ journey_check edition narrow itinerary.now earliest latest path.now }
     ensures demand3 { Demand3 edition narrow itinerary.now earliest latest path.now result }
 {
-    match view::check_header(path) {
-        HeaderCheck::Failed(error) => Verdict::Refused(JourneyError::HeaderFailed(error)),
-        HeaderCheck::Complete => {
-            check_complete(Form::Narrow, edition, path, itinerary, earliest, latest)
-        }
-    }
+    let itinerary = Itinerary {
+        form: Form::Narrow,
+        bytes: itinerary,
+    };
+    check(Journey {
+        edition,
+        path,
+        itinerary,
+        earliest,
+        latest,
+    })
 }
