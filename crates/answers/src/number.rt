@@ -6,7 +6,7 @@ ghost use Rattle.answers.specs.Answer.{local_number, action_number, local_values
 use crate::{AdvanceError, AsRoutingAction, LocalAsRoutingAction, StandardRoutingError};
 use standard_path::view;
 
-// ---- the number
+// ---- the number: one of several views of an answer, so a function and no `From`
 
 fn advance_number(why: AdvanceError) -> u8
     ensures { result ≡ advance_number why }
@@ -43,7 +43,7 @@ pub fn refusal_number(why: StandardRoutingError) -> u8
 
 // ---- the values
 
-// The values of an answer, in 01's order: how many there are, and 0 in the places behind the last.
+// The values of an answer, in 01's order, and 0 in the places behind the last. C, which has no slices, reads both fields.
 #[derive(Clone, Copy)]
 pub struct Values {
     pub count: u8,

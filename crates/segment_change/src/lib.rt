@@ -45,7 +45,7 @@ fn validate_links(
     Ok(())
 }
 
-// Questions 13 to 16.
+// Questions 13 to 16. The fields are parts of the path, handed on as they are.
 #[tactic(auto, unfolding(questions::specs::Questions::asks))]
 pub fn validate_segment_change(
     interfaces: InterfaceTable<'_>,

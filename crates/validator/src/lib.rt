@@ -39,6 +39,8 @@ fn arrives(interface: u16, found: u16) -> bool
     interface == 0 || found == 0 || found == interface
 }
 
+// Here and below a hop field and its info field are two parts of the path, handed on as they are: no view is copied.
+
 // The MAC that a hop should have, as a number.
 pub fn expected_mac(schedule: KeySchedule<'_>, hop: &[u8], info: &[u8], segment_id: u16) -> u64
     ensures { result ≡ right_mac (schedule_mac schedule.entry.table.now schedule.entry.round_keys schedule.entry.k1) hop.now info.now segment_id }
