@@ -11,17 +11,12 @@ ghost use Rattle.cmac.specs.Cmac.{last_block, chained, mac_with, aes_cmac};
 use aes::{encrypt_with, encrypt_words, round_table};
 use aes_keys::expand_key;
 use aes_words::{words, xor_words};
+use std::array;
 
 fn xor_block(left: [u8; 16], right: [u8; 16]) -> [u8; 16]
     ensures { result ≡ xor_block left right }
 {
-    let mut out = [0u8; 16];
-    let mut i = 0;
-    while i < 16 {
-        out[i] = left[i] ^ right[i];
-        i += 1;
-    }
-    out
+    array::from_fn(|i| left[i] ^ right[i])
 }
 
 // A byte of a block that is shifted left by one bit, with the byte after it.
@@ -34,11 +29,10 @@ fn shifted(byte: u8, next: u8) -> u8
 fn shift_left(block: [u8; 16]) -> [u8; 16]
     ensures { result ≡ shift_left block }
 {
-    let mut out = [0u8; 16];
-    let mut i = 0;
-    while i < 15 {
+    // Not by `array::from_fn`: with it a hop MAC takes 1.5 % longer.
+    let mut out = [0; 16];
+    for i in 0..15 {
         out[i] = shifted(block[i], block[i + 1]);
-        i += 1;
     }
     out[15] = shifted(block[15], 0);
     out
@@ -60,25 +54,18 @@ fn block_at(message: &[u8], at: usize) -> [u8; 16]
     requires { at + 16 ≤ length message.now }
     ensures { result ≡ block_at message.now at }
 {
-    let mut out = [0u8; 16];
-    let mut i = 0;
-    while i < 16 {
-        out[i] = message[at + i];
-        i += 1;
-    }
-    out
+    array::from_fn(|i| message[at + i])
 }
 
 // A byte of the message followed by its padding.
+#[tactic(auto, unfolding(crate::specs::Cmac::padded_byte))]
 fn padded_byte(message: &[u8], at: usize) -> u8
     ensures { result ≡ padded_byte message.now at }
 {
-    if at < message.len() {
-        message[at]
-    } else if at == message.len() {
-        0x80
-    } else {
-        0
+    match message.get(at) {
+        Some(byte) => *byte,
+        None if at == message.len() => 0x80,
+        None => 0,
     }
 }
 
@@ -86,20 +73,14 @@ fn padding_at(message: &[u8], at: usize) -> [u8; 16]
     requires { at ≤ length message.now }
     ensures { result ≡ padding_at message.now at }
 {
-    let mut out = [0u8; 16];
-    let mut i = 0;
-    while i < 16 {
-        out[i] = padded_byte(message, at + i);
-        i += 1;
-    }
-    out
+    array::from_fn(|i| padded_byte(message, at + i))
 }
 
 // How many blocks stand before the last.
 fn blocks_before_last(len: usize) -> usize
     ensures { result ≡ block_count len - 1 }
 {
-    if len == 0 { 0 } else { (len - 1) / 16 }
+    len.saturating_sub(1) / 16
 }
 
 // M_last.

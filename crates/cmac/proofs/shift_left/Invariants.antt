@@ -1,10 +1,6 @@
-use Prim.Native.Nat.{◌-◌, ◌≤◌}
 use Rattle.cmac.specs.Cmac.{shift_left}
 use Rattle.octets.proofs.Lists.{Filled}
 use Rattle.cmac.proofs.shift_left.Given as goal
 
 abbrev pub invariant-loop-i : goal.invariant-loop-i
-invariant-loop-i l = Filled 0 (shift_left l.block) l.out l.i × (l.i ≤ 15)
-
-abbrev pub decreases-loop-i : goal.decreases-loop-i
-decreases-loop-i l = 15 - l.i
+invariant-loop-i l = Filled 0 (shift_left l.block) l.out l.i

@@ -1,20 +1,14 @@
-use mathlib.Core.Path.{refl}
-use lib.ListN.{get_or}
-use Rattle.aes_words.specs.Block.{xor_block}
+use borrow.Author.Tests.{tests}
+use Prim.Native.Nat.{ℕ}
 use lib.Bits.{bit_xor}
-use Rattle.octets.proofs.Lists.{filled_none, tabulated_more, filled_all}
+use lib.ListN.{get_or}
+use Rattle.std.proofs.Common.{rules}
+use Rattle.octets.proofs.FromFn.{tabulated}
+use Rattle.aes_words.specs.Block.{xor_block}
 use Rattle.cmac.proofs.xor_block.Goals as goal
-
-pub loop-i-init : goal.loop-i-init
-unfolding xor_block
-loop-i-init c = filled_none 0 refl
-
-pub loop-i-preserved : goal.loop-i-preserved
-unfolding xor_block
-loop-i-preserved c =
-    let args = c.args in
-    tabulated_more 16 (λ j. bit_xor (get_or args.left j 0) (get_or args.right j 0)) _ refl c.loop-i-test.true c.loop-i.invariant
 
 pub returns : goal.returns
 unfolding xor_block
-returns c = filled_all 0 c.loop-i-test.false c.loop-i.invariant
+returns c =
+    let byte : ℕ → ℕ = λ i. bit_xor (get_or c.args.left i 0) (get_or c.args.right i 0) in
+    tabulated _ byte _ (λ x y q k. search (rules, tests)) c.from_fn.result 16 c.from_fn.ensures.items
