@@ -29,11 +29,7 @@ pub fn set_segment_id(path: &mut [u8], index: u8, value: u16)
 fn without_alert(flags: u8, ingress: bool) -> u8
     ensures { result ≡ by_direction ingress (without_ingress flags) (without_egress flags) }
 {
-    if ingress {
-        flags - flags / 2 % 2 * 2
-    } else {
-        flags - flags % 2
-    }
+    if ingress { flags & !2 } else { flags & !1 }
 }
 
 // The travel-ingress alert of the hop field that starts at a place, and its travel-egress alert.
