@@ -1,5 +1,5 @@
 // The number of an answer, and the values that it carries, for whoever has to write them down: 01's for a refusal.
-ghost use Rattle.std.specs.Prelude.{◌≡◌, ◌≤◌, length};
+ghost use Rattle.std.specs.Prelude.{◌≡◌, take};
 ghost use Rattle.answers.specs.Answer.{advance_number, refusal_number, flag, values_of, advance_values, refusal_values};
 ghost use Rattle.answers.specs.Answer.{local_number, action_number, local_values, action_values};
 
@@ -51,12 +51,12 @@ pub struct Values {
 }
 
 impl Values {
+    // Of more than four, the first four.
     pub fn of(values: &[u64]) -> Values
-        requires { length values.now ≤ 4 }
-        ensures { result ≡ values_of values.now }
+        ensures { result ≡ values_of (take 4 values.now) }
     {
         Values {
-            count: values.len() as u8,
+            count: values.len().min(4) as u8,
             places: std::array::from_fn(|i| values.get(i).copied().unwrap_or(0)),
         }
     }
