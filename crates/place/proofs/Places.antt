@@ -1,10 +1,15 @@
 -- What the halves cite of where a path stands.
 -- Assumes nothing.
-use mathlib.Core.Path.{◌≡◌, refl}
-use mathlib.Core.Bool.{Bool, true, false}
+use mathlib.Core.Path.{◌≡◌, refl, sym, ◌∙◌}
+use mathlib.Core.Bool.{Bool, true, false, cond}
 use mathlib.Core.List.{List, [], ◌∷◌, ◌++◌}
-use Prim.Native.Nat.{ℕ}
-use Rattle.std.specs.Prelude.{Ok, Err}
+use Prim.Native.Nat.{ℕ, ◌+◌, ◌<◌}
+use borrow.Author.Tests.{eq-eqb, lt-ltb}
+use lib.Dec.{eqb, ltb}
+use Rattle.std.specs.Prelude.{Option, Some, None, Ok, Err}
+use Rattle.standard_path.specs.Meta.{curr_hf, curr_inf, seg0_len, seg1_len, seg2_len}
+use Rattle.standard_path.specs.Header.{infos, hops, segment_of, segment_start, segment_end, segment_among, segment_index}
+use Rattle.standard_path.specs.declared.view.SegmentIndex.{SegmentIndex}
 use Rattle.questions.specs.Questions.{asks}
 use Rattle.answers.specs.Questions.{Questions, first_no}
 use Rattle.answers.proofs.Asked.{same_append, asks_told}
@@ -51,3 +56,59 @@ placed_by edition path f x = rw (f, x) (same_append (place_questions path) (onwa
         ≡ first_no (peering_questions edition path ++ way_questions edition path)
     go First = refl
     go Second = refl
+
+-- ---- what a segment index says of the questions
+
+-- a hop that lies in a segment
+pub record Lies (path : List ℕ) (h index : ℕ) (start end : Bool) : Type 0 where
+  pub inside : ltb h (hops path) ≡ true
+  pub segment : segment_of (seg0_len path) (seg1_len path) h ≡ index
+  pub first : eqb h (segment_start (seg0_len path) (seg1_len path) index) ≡ start
+  pub last : eqb (h + 1) (segment_end (seg0_len path) (seg1_len path) (seg2_len path) index) ≡ end
+
+-- what the segment index is, by whether the hop is inside
+abbrev found_at : List ℕ → ℕ → Bool → Option SegmentIndex
+found_at path h inside =
+    let index = segment_of (seg0_len path) (seg1_len path) h in
+    cond inside
+    (Some (record {
+      index = index;
+      start = eqb h (segment_start (seg0_len path) (seg1_len path) index);
+      end = eqb (h + 1) (segment_end (seg0_len path) (seg1_len path) (seg2_len path) index);
+    }))
+    None
+
+pub lies : (path : List ℕ) (h : ℕ) {found : SegmentIndex} → segment_index path h ≡ Some found
+    → Lies path h found.index found.start found.end
+unfolding segment_index segment_among hops
+lies path h {found} e = go (ltb h (hops path)) refl e
+  where
+    go : (inside : Bool) → ltb h (hops path) ≡ inside → found_at path h inside ≡ Some found → Lies path h found.index found.start found.end
+    go true i q = record { inside = i; segment = cc; first = cc; last = cc }
+    go false i q = absurd cc
+
+pub lies_nowhere : (path : List ℕ) (h : ℕ) → segment_index path h ≡ None → ltb h (hops path) ≡ false
+unfolding segment_index segment_among hops
+lies_nowhere path h e = go (ltb h (hops path)) refl e
+  where
+    go : (inside : Bool) → ltb h (hops path) ≡ inside → found_at path h inside ≡ None → ltb h (hops path) ≡ false
+    go true i q = absurd cc
+    go false i q = i
+
+-- where the current hop lies, by what the segment index answered
+pub here : (path : List ℕ) {hop : ℕ} {found : SegmentIndex} {answer : Option SegmentIndex}
+    → hop ≡ curr_hf path → answer ≡ segment_index path hop → answer ≡ Some found → Lies path (curr_hf path) found.index found.start found.end
+here path h e f = lies path (curr_hf path) (rw h at (sym e ∙ f))
+
+-- and that it lies in no segment
+pub nowhere_here : (path : List ℕ) {hop : ℕ} {answer : Option SegmentIndex}
+    → hop ≡ curr_hf path → answer ≡ segment_index path hop → answer ≡ None → ltb (curr_hf path) (hops path) ≡ false
+nowhere_here path h e f = lies_nowhere path (curr_hf path) (rw h at (sym e ∙ f))
+
+-- 7 and 8 answered yes, by what was read and compared
+pub index_yes : (path : List ℕ) {index actual : ℕ} → actual ≡ curr_inf path → index ≡ actual → eqb index (curr_inf path) ≡ true
+index_yes path {index} e h = eq-eqb index (curr_inf path) (h ∙ e)
+
+pub infos_yes : (path : List ℕ) {actual count : ℕ} → actual ≡ curr_inf path → count ≡ infos path → actual < count
+    → ltb (curr_inf path) (infos path) ≡ true
+infos_yes path {actual} {count} e f h = rw (e, f) at (lt-ltb actual count h)
