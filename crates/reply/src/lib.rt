@@ -1,7 +1,7 @@
 // Answers as numbers, for callers that know no enum of Rattle.
 #![tactic(auto)]
 
-ghost use Rattle.std.specs.Prelude.{◌≡◌, ◌≤◌, length, get_or, None};
+ghost use Rattle.std.specs.Prelude.{◌≡◌, take, get_or, None};
 ghost use Rattle.scmp.specs.Scmp.{scmp_values};
 ghost use Rattle.reply.specs.Reply.{reply, refusal_reply, action_reply, step_reply, ingress_reply};
 ghost use Rattle.reply.specs.Reply.{reversal_reply, expiration_reply, index_reply, segment_reply, journey_reply};
@@ -65,8 +65,7 @@ impl Reply {
 
 // Without an SCMP error.
 fn plain(number: u8, values: &[u64]) -> Reply
-    requires { length values.now ≤ 4 }
-    ensures { result ≡ reply number values.now None }
+    ensures { result ≡ reply number (take 4 values.now) None }
 {
     Reply::new(number, Values::of(values), None)
 }
