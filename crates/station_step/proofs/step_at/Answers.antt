@@ -1,0 +1,11 @@
+use mathlib.Core.Path.{refl}
+use Rattle.records.specs.Layout.{layout_of}
+use Rattle.station.specs.Station.{station_at}
+use Rattle.station_step.proofs.Unsound.{step_unsound}
+use Rattle.station_step.proofs.step_at.Goals as goal
+
+pub returns-in_default : goal.returns-in_default
+returns-in_default c =
+    let itinerary = c.args.itinerary in
+    let station = station_at (layout_of itinerary.form) itinerary.bytes.now c.args.station in
+    rw (step_unsound _ station _ _ c.in_default.ensures) (record { value = refl; path_after = refl })
