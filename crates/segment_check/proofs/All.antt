@@ -56,7 +56,7 @@ pub at_most_three : (path : List ℕ) (t : ℕ) → t < infos path → t < 3
 unfolding infos
 at_most_three path t h = omega arith
 
--- ---- what `all` says, asked of a list that has a test's item for each number below a count
+-- ---- what `all` says of a test that its closure computes, asked of a list that has a test's item for each number below a count
 
 module _ {X : Type 0} (xs : List X) (d : X) (test : X → Bool) {n : ℕ} {holds : ℕ → Bool} (e : length xs ≡ n)
     (same : (k : ℕ) → k < n → test (get_or xs k d) ≡ holds k) where
@@ -76,27 +76,27 @@ module _ {F : Type 0} (f : F) (n : ℕ) where
   -- of these numbers themselves
   pub all_counted : {g : Mut F (ℕ × Unit {0}) Bool} {s : Range ℕ} (u : Range ℕ) (r : Bool) (holds : ℕ → Bool)
       → s ≡ record { start = 0; end = n } → ChecksAll nat_range_steps g s f r u
-      → ((x : ℕ) (q : F) → Called g f (x, tt) true q → (q ≡ f) × (holds x ≡ true))
-      → ((x : ℕ) (q : F) → Called g f (x, tt) false q → holds x ≡ false) → r ≡ each_below n holds
-  all_counted u r holds e ran passed failed =
+      → ((x : ℕ) (b : Bool) (q : F) → Called g f (x, tt) b q → (q ≡ f) × (b ≡ holds x)) → r ≡ each_below n holds
+  all_counted u r holds e ran computes =
       each_listed (range_with_len 0 n) 0 holds (length-range_with_len 0 n) (λ k l. ap holds (get_or-range_with_len 0 n k 0 l ∙ zero-add k)) r
-      (cases_from_all u f r (λ k. holds k ≡ true) (λ k. holds k ≡ false) ran (YieldsList-from_range 0 n n e (omega arith)) passed failed)
+      (cases_from_all u f r (λ k. holds k ≡ true) (λ k. holds k ≡ false) ran (YieldsList-from_range 0 n n e (omega arith))
+      (λ x q k. let h = computes x true q k in (h.0, sym h.1)) (λ x q k. sym (computes x false q k).1))
 
   -- of each with its element of a list beside them
   pub all_beside : {g : Mut F ((ℕ × Bor ℕ) × Unit {0}) Bool} {s : Zip (Range ℕ) (Iter ℕ)} (u : Zip (Range ℕ) (Iter ℕ)) (r : Bool)
       (xs : List ℕ) (d : ℕ) (holds : ℕ → ℕ → Bool) → n ≤ length xs → zip_first s ≡ record { start = 0; end = n }
       → iter_rest (zip_second s) ≡ xs → ChecksAll (zips nat_range_steps fronts) g s f r u
-      → ((x : ℕ × Bor ℕ) (q : F) → Called g f (x, tt) true q → (q ≡ f) × (holds x.0 x.1.now ≡ true))
-      → ((x : ℕ × Bor ℕ) (q : F) → Called g f (x, tt) false q → holds x.0 x.1.now ≡ false)
+      → ((x : ℕ × Bor ℕ) (b : Bool) (q : F) → Called g f (x, tt) b q → (q ≡ f) × (b ≡ holds x.0 x.1.now))
       → r ≡ each_below n (λ k. holds k (get_or xs k d))
-  all_beside u r xs d holds long first second ran passed failed =
+  all_beside u r xs d holds long first second ran computes =
       let count = length-range_with_len 0 n in
       let numbers = range_with_len 0 n in
       each_listed (zip numbers xs) (d, d) (λ p. holds p.0 p.1) (omega (arith, length-zip numbers xs, count))
       (λ k l. ap (λ p. holds p.0 p.1) (get_or-zip numbers xs k (d, d) (omega (arith, count)) (omega arith))
       ∙ ap (λ j. holds j (get_or xs k d)) (get_or-range_with_len 0 n k d l ∙ zero-add k)) r
       (cases_from_all u f r (λ p. holds p.0 p.1 ≡ true) (λ p. holds p.0 p.1 ≡ false) ran
-      (YieldsList-from_zip (YieldsList-from_range 0 n n first (omega arith)) (YieldsList-from_slice xs second)) passed failed)
+      (YieldsList-from_zip (YieldsList-from_range 0 n n first (omega arith)) (YieldsList-from_slice xs second))
+      (λ x q k. let h = computes x true q k in (h.0, sym h.1)) (λ x q k. sym (computes x false q k).1))
 
 -- what a test of these may be asked: the number is below the count
 module _ {T B : Type 0} (others : T → Option B → T → Type 0) where

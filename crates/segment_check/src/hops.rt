@@ -6,6 +6,7 @@ ghost use Rattle.segment_check.specs.Segment.{start_of, count_of, hop_of, peerin
 use edition::Edition;
 use standard_path::view;
 
+// A function of the path: only of a parameter is it known that its bytes are bytes.
 fn length(path: &[u8], place: u8) -> u8
     ensures { (result ≡ count_of path.now place) × (result < 64) }
 {

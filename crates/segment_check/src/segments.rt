@@ -16,7 +16,7 @@ use standard_path::view;
 
 // ---- a segment
 
-// The station behind this one; behind the last there is none.
+// The station behind this one; behind the last there is none. A chain ends there, but a hop is asked of record 0.
 #[tactic(auto, unfolding(records::specs::Records::record_after))]
 fn next_station(itinerary: Itinerary<'_>, station: u32) -> u32
     ensures { result ≡ record_after (layout_of itinerary.entry.form) itinerary.entry.bytes.now station 1 }

@@ -33,5 +33,5 @@ returns c =
     let long : n ≤ length behind = omega (arith, length-take 2 (drop 1 firsts), length-drop 1 firsts) in
     rw (← c.info_field_count.ensures, ← c.saturating_sub-joints.ensures)
     (all_beside _ n c.all.new.self c.all.result behind 0 fits long c.zip.ensures.first
-    (ap iter_rest c.zip.ensures.second ∙ c.iter.ensures.rest) c.all.ensures.ran (λ x q k. search rules) (λ x q k. search rules)
+    (ap iter_rest c.zip.ensures.second ∙ c.iter.ensures.rest) c.all.ensures.ran (λ x b q k. search rules)
     ∙ all_same n _ _ (λ s l. ap (fits s) (get_or-take 2 (drop 1 firsts) s 0 (omega arith) ∙ get_or_after_one firsts s 0 ∙ ap (λ i. get_or firsts i 0) (add_comm 1 s))))

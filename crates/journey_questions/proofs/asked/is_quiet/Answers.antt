@@ -14,5 +14,4 @@ returns c =
     let holds : ℕ → Bool = λ j.
     not (cons_ingress_alert (hop_field c.args.path.now j)) && not (cons_egress_alert (hop_field c.args.path.now j)) in
     rw (← c.hop_field_count.ensures)
-    (all_counted _ c.hop_field_count.result c.all.new.self c.all.result holds refl c.all.ensures.ran (λ x q k. search rules)
-    (λ x q k. search rules))
+    (all_counted _ c.hop_field_count.result c.all.new.self c.all.result holds refl c.all.ensures.ran (λ x b q k. search rules))

@@ -17,5 +17,4 @@ returns c =
     segment_fits_from j.edition (layout_of j.itinerary.form) j.itinerary.bytes.now first j.earliest j.latest j.path.now s in
     rw (← c.info_field_count.ensures)
     (all_beside _ c.info_field_count.result c.all.new.self c.all.result c.args.firsts 0 fits (omega (arith, c.info_field_count.ensures))
-    c.zip.ensures.first (ap iter_rest c.zip.ensures.second ∙ c.iter.ensures.rest) c.all.ensures.ran (λ x q k. search rules)
-    (λ x q k. search rules))
+    c.zip.ensures.first (ap iter_rest c.zip.ensures.second ∙ c.iter.ensures.rest) c.all.ensures.ran (λ x b q k. search rules))
