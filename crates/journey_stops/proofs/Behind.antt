@@ -7,7 +7,7 @@ use mathlib.Core.List.{List, [], ◌∷◌, ◌++◌}
 use Prim.Native.Nat.{ℕ, suc}
 use lib.ListN.{length}
 use Rattle.answers.specs.Outcome.{Outcome}
-use Rattle.answers.specs.declared.StepAnswer.{StepAnswer}
+use Rattle.answers.specs.Answer.{StepAnswer}
 use Rattle.validator.specs.Check.{key_mac}
 use Rattle.edition.specs.declared.Edition.{Edition}
 use Rattle.routing.proofs.Moved.{step_holds}

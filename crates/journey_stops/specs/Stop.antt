@@ -1,8 +1,7 @@
 -- 02, F-1, 'Where the journey stops': 'the station (counted from 0) and the number that this station's whole step answers'.
 -- Assumes nothing.
-use Rattle.std.specs.Prelude.{ℕ, ◌≡◌, Bool, true, false, ◌&&◌, ◌||◌, cond, List, [], ◌∷◌, eqb, length, replicate}
+use Rattle.std.specs.Prelude.{ℕ, ◌≡◌, Bool, true, false, ◌&&◌, ◌||◌, cond, List, [], ◌∷◌, eqb, length, replicate, Ok, Err}
 use Rattle.answers.specs.Answer.{refusal_number}
-use Rattle.answers.specs.declared.StepAnswer.TheVariants.{Action, Refused}
 use Rattle.edition.specs.declared.Edition.{Edition}
 use Rattle.edition.specs.declared.Edition.TheVariants.{First, Second}
 use Rattle.station.specs.Station.{Station}
@@ -40,8 +39,8 @@ stop edition route earliest latest path =
 -- a journey that this station stopped, with a refusal of this number
 unfoldable pub stopped_by : ℕ → ℕ → Ended → Bool
 stopped_by station number nowhere = false
-stopped_by station number (ended_at k (Action action) left) = false
-stopped_by station number (ended_at k (Refused why) left) = eqb k station && eqb (refusal_number why) number
+stopped_by station number (ended_at k (Ok action) left) = false
+stopped_by station number (ended_at k (Err why) left) = eqb k station && eqb (refusal_number why) number
 
 -- 'the pair given must be what the journey of demand 3 really meets', with the clocks at the reading that it names
 unfoldable pub Meets : Edition → List Station → ℕ → ℕ → List ℕ → Reading → (station number : ℕ) → Type 0

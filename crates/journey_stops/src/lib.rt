@@ -5,8 +5,8 @@
 ghost use Rattle.std.specs.Prelude.{◌≡◌};
 ghost use Rattle.journey_stops.specs.Number.{step_number};
 
-use answers::StepAnswer;
 use answers::number::{action_number, refusal_number};
+use answers::{AsRoutingAction, StandardRoutingError};
 
 // What every clock reads.
 #[derive(Clone, Copy)]
@@ -23,12 +23,12 @@ pub struct Stop {
     pub reading: Reading,
 }
 
-// The number of what the step answers.
-pub fn step_number(answer: StepAnswer) -> u8
+// The number of what the step answers: one of several views of it, and so no From.
+pub fn step_number(answer: Result<AsRoutingAction, StandardRoutingError>) -> u8
     ensures { result ≡ step_number answer }
 {
     match answer {
-        StepAnswer::Action(action) => action_number(action),
-        StepAnswer::Refused(why) => refusal_number(why),
+        Ok(action) => action_number(action),
+        Err(why) => refusal_number(why),
     }
 }
