@@ -8,6 +8,7 @@ use native.Mathlib.Omega.{arith}
 use borrow.Author.Tests.{eqb-true, eqb-false, eq-eqb, ne_eqb, ltb-true, ltb-false, lt-ltb, le-ltb, le-leb, lt-leb, leb-true, leb-false}
 use lib.Dec.{eqb, ltb, leb}
 use Rattle.std.specs.Prelude.{Ok}
+use Rattle.std.specs.Result.{is_ok}
 use Rattle.questions.specs.Questions.{all_yes}
 use Rattle.standard_path.specs.Meta.{curr_inf, curr_hf, seg0_len, seg1_len, seg2_len}
 use Rattle.standard_path.specs.Header.{infos, hops, segment_of, segment_end}
@@ -20,7 +21,7 @@ use Rattle.edition.proofs.Peering.{Peering, peering_lengths}
 use Rattle.place.specs.Place.{segment, starts, ends, is_final, is_peering_hop, crosses, changes, ingress_place}
 use Rattle.routing.proofs.Inside.{inside_questions}
 use Rattle.segment_check.specs.Segment.{start_of, count_of, peering_hop_of}
-use Rattle.journey.proofs.Yes.{is_valid, valid_yes}
+use Rattle.journey.proofs.Yes.{valid_yes}
 use Rattle.journey.proofs.Stands.{Stands, peering_path_here, fits_here, peer_here, crosses_here}
 
 -- ---- hop m of segment t, which the path comes to: this segment and all before it have two hops or more, on a peering path one or more;
@@ -355,5 +356,5 @@ module _ {edition : Edition} {path mid : List ℕ} {t value : ℕ} (s : Stands e
           → (eqb (segment mid) (curr_inf mid) && (not (is_final mid) && ((crosses edition mid || not (ends mid)) && true))) ≡ two
       go true e =
           let two = leb-true 2 (count_of path (t + 1)) e in
-          sym (valid_yes (inside_questions edition mid)) ∙ ap is_valid (inside_onward s (omega arith) (omega arith) (inner (omega arith)))
+          sym (valid_yes (inside_questions edition mid)) ∙ ap is_ok (inside_onward s (omega arith) (omega arith) (inner (omega arith)))
       go false e = some (eqb (count_of path (t + 1)) 0) refl (leb-false 2 (count_of path (t + 1)) e)

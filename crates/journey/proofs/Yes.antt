@@ -4,7 +4,8 @@ use mathlib.Core.Path.{◌≡◌, refl, ap, sym, ◌∙◌}
 use mathlib.Core.Bool.{Bool, true, false, ◌&&◌, and-true}
 use mathlib.Core.List.{List}
 use Prim.Native.Nat.{ℕ}
-use Rattle.std.specs.Prelude.{Result, Ok, Err}
+use Rattle.std.specs.Prelude.{Ok, Err}
+use Rattle.std.specs.Result.{is_ok}
 use Rattle.questions.specs.Questions.{all_yes}
 use Rattle.questions.proofs.Asked.{asks_yes, through as asks-through}
 use Rattle.answers.specs.Questions.{Questions, first_no}
@@ -13,12 +14,8 @@ use Rattle.answers.specs.declared.StandardRoutingError.{StandardRoutingError}
 use Rattle.answers.specs.Answer.{StepAnswer}
 use Rattle.answers.proofs.Asked.{told, asks_told}
 
-abbrev pub is_valid : Result Unit StandardRoutingError → Bool
-is_valid (Ok _) = true
-is_valid (Err why) = false
-
-pub valid_yes : (qs : Questions) → is_valid (first_no qs) ≡ all_yes qs
-valid_yes qs = asks-through Err is_valid (λ why. refl) qs (Ok tt) ∙ and-true (all_yes qs)
+pub valid_yes : (qs : Questions) → is_ok (first_no qs) ≡ all_yes qs
+valid_yes qs = asks-through Err is_ok (λ why. refl) qs (Ok tt) ∙ and-true (all_yes qs)
 
 pub yes_valid : (qs : Questions) → all_yes qs ≡ true → first_no qs ≡ Ok tt
 yes_valid qs e = asks_yes Err qs (Ok tt) e
