@@ -38,7 +38,7 @@ fn passes(journey: Journey<'_>) -> bool
 // ---- the questions
 
 // In any form of the itinerary.
-#[tactic(auto, using(crate::proofs::Verdicts::check_asked), unfolding(questions::specs::Questions::asks))]
+#[tactic(auto, using(crate::proofs::Verdicts::check_refused, crate::proofs::Verdicts::check_complete), unfolding(questions::specs::Questions::asks))]
 fn check(journey: Journey<'_>) -> Result<Verdict, JourneyError>
     ensures { let j = journey.entry in result ≡ journey_check j.edition (layout_of j.itinerary.form) j.itinerary.bytes.now
         j.earliest j.latest j.path.now }
