@@ -8,66 +8,45 @@ ghost use Rattle.journey.specs.Journey.{goes_on};
 ghost use Rattle.journey_stops.specs.Stop.{run};
 ghost use Rattle.journey_run.specs.Run.{end_of, left_of};
 
-use answers::{AsRoutingAction, StepAnswer};
+use answers::{AsRoutingAction, StandardRoutingError};
 use edition::Edition;
-use records::form::Form;
+use records::Itinerary;
 use station_step::step_at;
 
-// Where a journey ended: the station, counted from 0, and what it answered. Nowhere, if there was no station to go to.
+// Where a journey ended: the station, counted from 0, and what it answered.
 #[derive(Clone, Copy)]
-pub enum JourneyEnd {
-    Nowhere,
-    EndedAt { station: usize, answer: StepAnswer },
+pub struct JourneyEnd {
+    pub station: usize,
+    pub answer: Result<AsRoutingAction, StandardRoutingError>,
 }
 
-fn is_forward(action: AsRoutingAction) -> bool
-    ensures { result ≡ goes_on (StepAnswer.Action action) }
-{
-    match action {
-        AsRoutingAction::ForwardNextHop { .. } => true,
-        AsRoutingAction::Local(_) => false,
-    }
-}
-
-fn goes_on(answer: StepAnswer) -> bool
+#[tactic(auto, unfolding(journey::specs::Journey::goes_on))]
+fn goes_on(answer: Result<AsRoutingAction, StandardRoutingError>) -> bool
     ensures { result ≡ goes_on answer }
 {
-    match answer {
-        StepAnswer::Action(action) => is_forward(action),
-        StepAnswer::Refused(_) => false,
-    }
+    matches!(answer, Ok(AsRoutingAction::ForwardNextHop { .. }))
 }
 
-// The journey from the plan's first station, every clock at `reading`.
+// The journey from the plan's first station, every clock at `reading`. None, if there is no station to go to.
+#[tactic(auto, using(crate::proofs::Running::begins, crate::proofs::Running::goes_further))]
 pub fn run(
-    form: Form,
     edition: Edition,
-    itinerary: &[u8],
+    itinerary: Itinerary<'_>,
     path: &mut [u8],
     reading: u32,
-) -> JourneyEnd
-    ensures value { result ≡ end_of (run edition (stations (layout_of form) itinerary.now) path.old reading) }
-    ensures path_after { path.new ≡ left_of path.old
-        (run edition (stations (layout_of form) itinerary.now) path.old reading) }
+) -> Option<JourneyEnd>
+    ensures value { result ≡ end_of (run edition
+        (stations (layout_of itinerary.entry.form) itinerary.entry.bytes.now) path.old reading) }
+    ensures path_after { path.new ≡ left_of path.old (run edition
+        (stations (layout_of itinerary.entry.form) itinerary.entry.bytes.now) path.old reading) }
 {
-    let mut station = records::next(form, itinerary, 0);
-    let mut left = records::record_count(form, itinerary);
-    let mut passed: usize = 0;
-    while 0 < left {
-        if station == 0 {
-            return JourneyEnd::Nowhere;
+    let mut end = None;
+    for (station, record) in itinerary.station_records().enumerate() {
+        let answer = step_at(edition, itinerary, record, path, reading);
+        end = Some(JourneyEnd { station, answer });
+        if !goes_on(answer) {
+            break;
         }
-        let answer = step_at(form, edition, itinerary, station, path, reading);
-        let next = records::next(form, itinerary, station);
-        if !goes_on(answer) | (next == 0) | (left == 1) {
-            return JourneyEnd::EndedAt {
-                station: passed,
-                answer,
-            };
-        }
-        station = next;
-        passed += 1;
-        left -= 1;
     }
-    JourneyEnd::Nowhere
+    end
 }

@@ -1,10 +1,10 @@
+use Rattle.std.specs.Iterator.Adapters.{enumerate_source, enumerate_count}
 use Rattle.records.specs.Layout.{layout_of}
+use Rattle.records.specs.Chain.{records_left}
 use Rattle.journey_run.proofs.Running.{Running}
 use Rattle.journey_run.proofs.run.Given as goal
 
-abbrev pub invariant-loop-left : goal.invariant-loop-left
-invariant-loop-left l =
-    Running l.edition (layout_of l.form) l.itinerary l.reading l.initial.path l.passed l.left l.station l.path
-
-abbrev pub decreases-loop-left : goal.decreases-loop-left
-decreases-loop-left l = l.left
+abbrev pub invariant-loop-station : goal.invariant-loop-station
+invariant-loop-station l =
+    Running l.edition (layout_of l.itinerary.form) l.itinerary.bytes.now l.reading l.initial.path
+    (enumerate_count l.station-iterator) (records_left (enumerate_source l.station-iterator)) l.end l.path
