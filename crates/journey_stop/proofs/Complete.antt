@@ -1,33 +1,27 @@
--- A header that 2, 3 and 4 let through: how long it is, and what a copy of it owes.
+-- A header that 2, 3 and 4 let through, and how long it is.
 -- Assumes nothing.
 use mathlib.Core.Path.{◌≡◌, refl, ap, sym, ◌∙◌}
-use mathlib.Core.Bool.{Bool, true, false, and-true}
+use mathlib.Core.Bool.{true, and-true}
 use mathlib.Core.List.{List}
-use Prim.Native.Nat.{ℕ, suc, ◌+◌, ◌≤◌, ◌<◌}
+use Prim.Native.Nat.{ℕ, ◌≤◌}
 use native.Mathlib.Omega.{arith}
 use borrow.Author.Tests.{leb-true}
-use lib.ListN.{length, get_or, take, drop, set, length-set}
-use lib.Seq.{take-suc, take-suc-set}
+use lib.ListN.{length, drop}
+use Rattle.std.specs.Prelude.{Ok, Err, is_ok}
 use Rattle.octets.proofs.Bools.{both, first_of, second_of}
 use Rattle.questions.specs.Questions.{all_yes}
-use Rattle.questions.proofs.Asked.{through}
+use Rattle.questions.proofs.Asked.{asks_yes, through}
 use Rattle.standard_path.specs.Header.{infos, hops, header_size, meta_there, fields_there, hops_few, header_questions, header_check}
-use Rattle.standard_path.specs.declared.view.HeaderCheck.{HeaderCheck}
-use Rattle.standard_path.specs.declared.view.HeaderCheck.TheVariants.{Complete, Failed}
 use Rattle.edition.specs.declared.Edition.{Edition}
 use Rattle.records.specs.Layout.{Layout}
 use Rattle.journey_questions.specs.Questions.{questions}
 
-abbrev is_complete : HeaderCheck → Bool
-is_complete Complete = true
-is_complete (Failed error) = false
-
-module _ (path : List ℕ) (complete : header_check path ≡ Complete) where
+module _ (path : List ℕ) (whole : header_check path ≡ Ok tt) where
   header_yes : all_yes (header_questions path) ≡ true
   unfolding header_check
   header_yes =
-      sym (and-true (all_yes (header_questions path))) ∙ sym (through Failed is_complete (λ why. refl) (header_questions path) Complete)
-      ∙ ap is_complete complete
+      sym (and-true (all_yes (header_questions path))) ∙ sym (through Err is_ok (λ why. refl) (header_questions path) (Ok tt))
+      ∙ ap is_ok whole
 
   pub there : header_size path ≤ length path
   unfolding all_yes
@@ -49,26 +43,13 @@ module _ (path : List ℕ) (complete : header_check path ≡ Complete) where
       (both (first_of (fields_there path) _ (second_of (meta_there path) _ header_yes))
       (both {x = hops_few path} (first_of _ true (second_of (fields_there path) _ (second_of (meta_there path) _ header_yes))) e))
 
--- ---- a header copied from the front
-
-pub record Copying (path : List ℕ) (size : ℕ) (header : List ℕ) (i : ℕ) : Type 0 where
-  pub room : length header ≡ 796
-  pub within : i ≤ size
-  pub front : take i header ≡ take i path
-
-module _ {path : List ℕ} {size : ℕ} (inside : size ≤ length path) (few : size ≤ 796) {header : List ℕ} {i : ℕ}
-    (copying : Copying path size header i) (more : i < size) where
-  pub copying_more : {value : ℕ} → value ≡ get_or path i 0 → Copying path size (set header i value) (i + 1)
-  copying_more {value} e =
-      let s : i + 1 ≡ suc i = omega arith in
-      record {
-        room = length-set header i value ∙ copying.room;
-        within = omega arith;
-        front = rw (
-          s,
-          take-suc-set header i value (omega (arith, copying.room)),
-          take-suc path i 0 (omega arith),
-          copying.front,
-          e,
-        );
-      }
+-- a call whose questions are all answered yes has such a header
+pub complete : (edition : Edition) (layout : Layout) (itinerary : List ℕ) (earliest latest : ℕ) (path : List ℕ)
+    → all_yes (questions edition layout itinerary earliest latest path) ≡ true → header_check path ≡ Ok tt
+unfolding all_yes header_check
+complete edition layout itinerary earliest latest path e =
+    let behind_meta = second_of (meta_there path) _ e in
+    let behind_fields = second_of (fields_there path) _ behind_meta in
+    asks_yes Err (header_questions path) (Ok tt)
+    (both (first_of (meta_there path) _ e) (both (first_of (fields_there path) _ behind_meta)
+    (both {x = hops_few path} (first_of (hops_few path) _ behind_fields) refl)))

@@ -6,10 +6,10 @@ use mathlib.Core.List.{List}
 use Prim.Native.Nat.{ℕ, suc, ◌≤◌}
 use lib.Dec.{eqb}
 use lib.ListN.{length, take, drop, length-replicate, take-append-drop}
+use Rattle.std.proofs.Common.{Option, Ok, Err}
 use Rattle.octets.proofs.Bools.{second_of}
 use Rattle.questions.specs.Questions.{all_yes}
 use Rattle.standard_path.specs.Header.{header_size}
-use Rattle.answers.specs.declared.StepAnswer.TheVariants.{Action, Refused}
 use Rattle.edition.specs.declared.Edition.{Edition}
 use Rattle.records.specs.Layout.{Layout}
 use Rattle.station.specs.Station.{Station}
@@ -53,14 +53,14 @@ end_told reading (ended_at k answer left) = refl
 
 stopped_told : (edition : Edition) (ended : Ended) → stopped edition ended ≡ true → is_stopped (end_of ended) ≡ true
 stopped_told edition nowhere e = absurd (false≢true e)
-stopped_told edition (ended_at k (Action action) left) e = absurd (false≢true e)
-stopped_told edition (ended_at k (Refused why) left) e = refl
+stopped_told edition (ended_at k (Ok action) left) e = absurd (false≢true e)
+stopped_told edition (ended_at k (Err why) left) e = refl
 
 well_told : (count : ℕ) (ended : Ended) → ended_well count ended ≡ true → is_stopped (end_of ended) ≡ false
 unfolding ended_well delivers
 well_told count nowhere e = refl
-well_told count (ended_at k (Action action) left) e = refl
-well_told count (ended_at k (Refused why) left) e = absurd (false≢true (second_of (eqb (suc k) count) false e))
+well_told count (ended_at k (Ok action) left) e = refl
+well_told count (ended_at k (Err why) left) e = absurd (false≢true (second_of (eqb (suc k) count) false e))
 
 module _ (edition : Edition) (layout : Layout) (itinerary : List ℕ) (earliest latest : ℕ) (path : List ℕ)
     (e : all_yes (questions edition layout itinerary earliest latest path) ≡ true) where
@@ -75,7 +75,7 @@ module _ (edition : Edition) (layout : Layout) (itinerary : List ℕ) (earliest 
       stopped_told edition (run edition route path reading)
       (stops_with edition layout itinerary earliest latest path e (clocks_at route reading) (length-replicate (length route) reading) q)
 
-  module _ {first : JourneyEnd} (early : first ≡ end_of (run edition route path earliest)) where
+  module _ {first : Option JourneyEnd} (early : first ≡ end_of (run edition route path earliest)) where
     -- it stopped, with every clock at the earliest reading
     pub stops_early : is_stopped first ≡ true → stop_at Earliest first ≡ stop edition route earliest latest path
     unfolding stop
@@ -87,7 +87,7 @@ module _ (edition : Edition) (layout : Layout) (itinerary : List ℕ) (earliest 
         go false q = rw early (end_told Earliest (run edition route path earliest))
 
     -- or it arrived, and is run with every clock at the latest
-    pub stops_late : is_stopped first ≡ false → {second : JourneyEnd} → second ≡ end_of (run edition route path latest)
+    pub stops_late : is_stopped first ≡ false → {second : Option JourneyEnd} → second ≡ end_of (run edition route path latest)
         → stop_at Latest second ≡ stop edition route earliest latest path
     unfolding stop
     stops_late s {second} late = go (run_arrives edition route path earliest) refl
