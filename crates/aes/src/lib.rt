@@ -8,7 +8,7 @@ ghost use Rattle.aes_words.specs.Words.{word_bytes, state_bytes};
 ghost use Rattle.aes.specs.Cipher.{cipher};
 ghost use Rattle.aes.specs.ByTable.{round_table, entry_of, substituted_by, column_by, last_column_by, round_by, last_round_by, cipher_by};
 
-use aes_words::{rotate, unwords, word, words, xor_words};
+use aes_words::{unwords, word, words, xor_words};
 
 // The table that `encrypt_with` is lent: for each byte its substitution value S as 2 S, S, S, 3 S.
 pub fn round_table() -> [u8; 1024]
@@ -20,7 +20,7 @@ pub fn round_table() -> [u8; 1024]
 fn entry(table: &[u8; 1024], byte: u8) -> u32
     ensures { word_bytes result ≡ entry_of table.now byte }
 {
-    let at = 4 * (byte as usize);
+    let at = 4 * usize::from(byte);
     word(table[at], table[at + 1], table[at + 2], table[at + 3])
 }
 
@@ -29,19 +29,16 @@ fn column(table: &[u8; 1024], word0: u32, word1: u32, word2: u32, word3: u32) ->
     ensures { word_bytes result
         ≡ column_by table.now (word0 % 256) (word1 / 256 % 256) (word2 / 65536 % 256) (word3 / 16777216 % 256) }
 {
-    entry(table, (word0 % 0x100) as u8)
-        ^ rotate(entry(table, (word1 / 0x100 % 0x100) as u8))
-        ^ rotate(rotate(entry(table, (word2 / 0x1_0000 % 0x100) as u8)))
-        ^ rotate(rotate(rotate(entry(table, (word3 / 0x100_0000 % 0x100) as u8))))
+    entry(table, word0.to_le_bytes()[0])
+        ^ entry(table, word1.to_le_bytes()[1]).rotate_left(8)
+        ^ entry(table, word2.to_le_bytes()[2]).rotate_left(16)
+        ^ entry(table, word3.to_le_bytes()[3]).rotate_left(24)
 }
 
 fn round(table: &[u8; 1024], state: [u32; 4], round_key: [u8; 16]) -> [u32; 4]
     ensures { state_bytes result ≡ round_by table.now (state_bytes state) round_key }
 {
-    let word0 = state[0];
-    let word1 = state[1];
-    let word2 = state[2];
-    let word3 = state[3];
+    let [word0, word1, word2, word3] = state;
     let columns = [
         column(table, word0, word1, word2, word3),
         column(table, word1, word2, word3, word0),
@@ -54,7 +51,7 @@ fn round(table: &[u8; 1024], state: [u32; 4], round_key: [u8; 16]) -> [u32; 4]
 fn substituted(table: &[u8; 1024], byte: u8) -> u8
     ensures { result ≡ substituted_by table.now byte }
 {
-    table[4 * (byte as usize) + 1]
+    table[4 * usize::from(byte) + 1]
 }
 
 // The same of the last round, which does not mix.
@@ -63,20 +60,17 @@ fn last_column(table: &[u8; 1024], word0: u32, word1: u32, word2: u32, word3: u3
         ≡ last_column_by table.now (word0 % 256) (word1 / 256 % 256) (word2 / 65536 % 256) (word3 / 16777216 % 256) }
 {
     word(
-        substituted(table, (word0 % 0x100) as u8),
-        substituted(table, (word1 / 0x100 % 0x100) as u8),
-        substituted(table, (word2 / 0x1_0000 % 0x100) as u8),
-        substituted(table, (word3 / 0x100_0000 % 0x100) as u8),
+        substituted(table, word0.to_le_bytes()[0]),
+        substituted(table, word1.to_le_bytes()[1]),
+        substituted(table, word2.to_le_bytes()[2]),
+        substituted(table, word3.to_le_bytes()[3]),
     )
 }
 
 fn last_round(table: &[u8; 1024], state: [u32; 4], round_key: [u8; 16]) -> [u8; 16]
     ensures { result ≡ last_round_by table.now (state_bytes state) round_key }
 {
-    let word0 = state[0];
-    let word1 = state[1];
-    let word2 = state[2];
-    let word3 = state[3];
+    let [word0, word1, word2, word3] = state;
     let columns = [
         last_column(table, word0, word1, word2, word3),
         last_column(table, word1, word2, word3, word0),
@@ -86,8 +80,7 @@ fn last_round(table: &[u8; 1024], state: [u32; 4], round_key: [u8; 16]) -> [u8; 
     unwords(xor_words(columns, words(round_key)))
 }
 
-// The cipher with a lent table, of a block by its words. The rounds are written out: an index that is no literal copies all round keys in
-// each call.
+// The cipher with a lent table, of a block by its words.
 pub fn encrypt_words(table: &[u8; 1024], round_keys: [[u8; 16]; 11], block: [u32; 4]) -> [u8; 16]
     ensures { result ≡ cipher_by table.now round_keys (state_bytes block) }
 {

@@ -16,7 +16,7 @@ fn sub_byte(sbox: &[u8; 256], byte: u8) -> u8
     requires { sbox.now ≡ s_box }
     ensures { result ≡ sub_byte byte }
 {
-    sbox[byte as usize]
+    sbox[usize::from(byte)]
 }
 
 // SubWord(RotWord(last)).
@@ -24,11 +24,12 @@ fn rot_sub_word(sbox: &[u8; 256], last: u32) -> u32
     requires { sbox.now ≡ s_box }
     ensures { word_bytes result ≡ sub_word (rot_word (word_bytes last)) }
 {
+    let [byte0, byte1, byte2, byte3] = last.to_le_bytes();
     word(
-        sub_byte(sbox, (last / 0x100 % 0x100) as u8),
-        sub_byte(sbox, (last / 0x1_0000 % 0x100) as u8),
-        sub_byte(sbox, (last / 0x100_0000 % 0x100) as u8),
-        sub_byte(sbox, (last % 0x100) as u8),
+        sub_byte(sbox, byte1),
+        sub_byte(sbox, byte2),
+        sub_byte(sbox, byte3),
+        sub_byte(sbox, byte0),
     )
 }
 
@@ -37,7 +38,7 @@ fn next_words(sbox: &[u8; 256], key: [u32; 4], rcon: u8) -> [u32; 4]
     requires { sbox.now ≡ s_box }
     ensures { words_bytes result ≡ next_words (rcon ∷ 0 ∷ 0 ∷ 0 ∷ []) (words_bytes key) }
 {
-    let temp = rot_sub_word(sbox, key[3]) ^ (rcon as u32);
+    let temp = rot_sub_word(sbox, key[3]) ^ u32::from(rcon);
     let sum1 = key[1] ^ key[0];
     let sum2 = key[2] ^ sum1;
     let sum3 = key[3] ^ sum2;
@@ -49,15 +50,12 @@ fn expand_with(sbox: &[u8; 256], key: [u8; 16]) -> [[u8; 16]; 11]
     ensures { result ≡ round_keys key }
 {
     let rcon = RCON;
-    let mut round_keys = [[0u8; 16]; 11];
-    round_keys[0] = key;
+    let mut round_keys = [key; 11];
     let mut last = words(key);
-    let mut i = 1;
-    while i < 11 {
+    for i in 1..11 {
         let next = next_words(sbox, last, rcon[i]);
         last = next;
         round_keys[i] = unwords(last);
-        i += 1;
     }
     round_keys
 }

@@ -2,10 +2,11 @@
 -- Assumes nothing.
 use mathlib.Core.Path.{◌≡◌, refl, ap, ap₂, ◌∙◌}
 use mathlib.Core.List.{List, [], ◌∷◌, ◌++◌}
-use Prim.Native.Nat.{ℕ, ◌+◌, ◌*◌, ◌/◌, ◌%◌, ◌<◌}
+use Prim.Native.Nat.{ℕ, ◌+◌, ◌*◌, ◌/◌, ◌%◌, ◌^◌, ◌<◌}
 use native.Mathlib.Omega.{arith}
-use lib.Bits.{bit_xor, xor_shr, xor_mod}
+use lib.Bits.{bit_or, bit_xor, or_shifted, xor_shr, xor_mod}
 use lib.ListN.{get_or}
+use Rattle.std.specs.Int.{w32, rotate_left}
 use Rattle.aes_words.specs.Block.{xor_block, xor_word, joined}
 use Rattle.aes_words.specs.Words.{word_bytes, words_bytes, state_bytes, block_words, rotated}
 
@@ -28,19 +29,34 @@ parts w h =
     let d4 : w / 16777216 % 256 ≡ w / 16777216 = omega arith in
     omega arith
 
-rotated_sum : (w a b c d : ℕ) → a < 256 → b < 256 → c < 256 → d < 256 → w ≡ a + b * 256 + c * 65536 + d * 16777216
-    → w % 16777216 * 256 + w / 16777216 ≡ d + a * 256 + b * 65536 + c * 16777216
-rotated_sum w a b c d ha hb hc hd e = omega arith
+-- `rotate_left` by one, two or three bytes
+rotate_sum : (k w low : ℕ) {x : ℕ} → low < 2 ^ k → x ≡ w * 2 ^ k → bit_or x low ≡ w * 2 ^ k + low
+rotate_sum k w low b e = rw e (or_shifted w k low b)
 
-pub bytes_rotate : (w : ℕ) → w < 4294967296 → word_bytes (w % 16777216 * 256 + w / 16777216) ≡ rotated (word_bytes w)
-unfolding word_bytes
-bytes_rotate w h =
-    let a : ℕ = w % 256 in
-    let b : ℕ = w / 256 % 256 in
-    let c : ℕ = w / 65536 % 256 in
-    let d : ℕ = w / 16777216 % 256 in
-    rw (rotated_sum w a b c d (omega arith) (omega arith) (omega arith) (omega arith) (parts w h))
-    (bytes_pack d a b c (omega arith) (omega arith) (omega arith) (omega arith))
+module _ (w : ℕ) (h : w < 4294967296) where
+  pub bytes_rotate_8 : word_bytes (rotate_left w32 w 8) ≡ rotated (word_bytes w)
+  unfolding word_bytes
+  bytes_rotate_8 =
+      let e : rotate_left w32 w 8 ≡ w % 16777216 * 256 + w / 16777216 = rotate_sum 8 (w % 16777216) (w / 16777216) (omega arith) (omega arith) in
+      let p = parts w h in
+      let s : rotate_left w32 w 8 ≡ w / 16777216 % 256 + w % 256 * 256 + w / 256 % 256 * 65536 + w / 65536 % 256 * 16777216 = omega arith in
+      rw s (bytes_pack (w / 16777216 % 256) (w % 256) (w / 256 % 256) (w / 65536 % 256) (omega arith) (omega arith) (omega arith) (omega arith))
+
+  pub bytes_rotate_16 : word_bytes (rotate_left w32 w 16) ≡ rotated (rotated (word_bytes w))
+  unfolding word_bytes
+  bytes_rotate_16 =
+      let e : rotate_left w32 w 16 ≡ w % 65536 * 65536 + w / 65536 = rotate_sum 16 (w % 65536) (w / 65536) (omega arith) (omega arith) in
+      let p = parts w h in
+      let s : rotate_left w32 w 16 ≡ w / 65536 % 256 + w / 16777216 % 256 * 256 + w % 256 * 65536 + w / 256 % 256 * 16777216 = omega arith in
+      rw s (bytes_pack (w / 65536 % 256) (w / 16777216 % 256) (w % 256) (w / 256 % 256) (omega arith) (omega arith) (omega arith) (omega arith))
+
+  pub bytes_rotate_24 : word_bytes (rotate_left w32 w 24) ≡ rotated (rotated (rotated (word_bytes w)))
+  unfolding word_bytes
+  bytes_rotate_24 =
+      let e : rotate_left w32 w 24 ≡ w % 256 * 16777216 + w / 256 = rotate_sum 24 (w % 256) (w / 256) (omega arith) (omega arith) in
+      let p = parts w h in
+      let s : rotate_left w32 w 24 ≡ w / 256 % 256 + w / 65536 % 256 * 256 + w / 16777216 % 256 * 65536 + w % 256 * 16777216 = omega arith in
+      rw s (bytes_pack (w / 256 % 256) (w / 65536 % 256) (w / 16777216 % 256) (w % 256) (omega arith) (omega arith) (omega arith) (omega arith))
 
 bytes_xor : (x y : ℕ) → word_bytes (bit_xor x y) ≡ xor_word (word_bytes x) (word_bytes y)
 unfolding word_bytes xor_word

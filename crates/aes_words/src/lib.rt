@@ -3,7 +3,9 @@
 
 ghost use Rattle.std.specs.Prelude.{◌≡◌, [], ◌∷◌};
 ghost use Rattle.aes_words.specs.Block.{xor_block};
-ghost use Rattle.aes_words.specs.Words.{word_bytes, words_bytes, block_words, state_bytes, rotated};
+ghost use Rattle.aes_words.specs.Words.{word_bytes, words_bytes, block_words, state_bytes};
+
+use std::array;
 
 pub fn word(byte0: u8, byte1: u8, byte2: u8, byte3: u8) -> u32
     ensures { word_bytes result ≡ byte0 ∷ byte1 ∷ byte2 ∷ byte3 ∷ [] }
@@ -12,13 +14,6 @@ pub fn word(byte0: u8, byte1: u8, byte2: u8, byte3: u8) -> u32
         + (byte1 as u32) * 0x100
         + (byte2 as u32) * 0x1_0000
         + (byte3 as u32) * 0x100_0000
-}
-
-// The bytes one place on, the last to the front.
-pub fn rotate(word: u32) -> u32
-    ensures { word_bytes result ≡ rotated (word_bytes word) }
-{
-    word % 0x100_0000 * 0x100 + word / 0x100_0000
 }
 
 pub fn words(block: [u8; 16]) -> [u32; 4]
@@ -35,37 +30,11 @@ pub fn words(block: [u8; 16]) -> [u32; 4]
 pub fn unwords(words: [u32; 4]) -> [u8; 16]
     ensures { result ≡ state_bytes words }
 {
-    let word0 = words[0];
-    let word1 = words[1];
-    let word2 = words[2];
-    let word3 = words[3];
-    [
-        (word0 % 0x100) as u8,
-        (word0 / 0x100 % 0x100) as u8,
-        (word0 / 0x1_0000 % 0x100) as u8,
-        (word0 / 0x100_0000 % 0x100) as u8,
-        (word1 % 0x100) as u8,
-        (word1 / 0x100 % 0x100) as u8,
-        (word1 / 0x1_0000 % 0x100) as u8,
-        (word1 / 0x100_0000 % 0x100) as u8,
-        (word2 % 0x100) as u8,
-        (word2 / 0x100 % 0x100) as u8,
-        (word2 / 0x1_0000 % 0x100) as u8,
-        (word2 / 0x100_0000 % 0x100) as u8,
-        (word3 % 0x100) as u8,
-        (word3 / 0x100 % 0x100) as u8,
-        (word3 / 0x1_0000 % 0x100) as u8,
-        (word3 / 0x100_0000 % 0x100) as u8,
-    ]
+    array::from_fn(|i| words[i / 4].to_le_bytes()[i % 4])
 }
 
 pub fn xor_words(left: [u32; 4], right: [u32; 4]) -> [u32; 4]
     ensures { state_bytes result ≡ xor_block (state_bytes left) (state_bytes right) }
 {
-    [
-        left[0] ^ right[0],
-        left[1] ^ right[1],
-        left[2] ^ right[2],
-        left[3] ^ right[3],
-    ]
+    array::from_fn(|i| left[i] ^ right[i])
 }

@@ -104,19 +104,26 @@ pub struct KeySchedule<'a> {
 }
 
 impl<'a> KeySchedule<'a> {
-    // With `round_table()` the cipher is AES.
-    pub fn new(table: &'a [u8; 1024], key: [u8; 16]) -> KeySchedule<'a>
+    // Any round keys may be given. With `round_table()` the cipher is AES.
+    pub fn from_round_keys(table: &'a [u8; 1024], round_keys: [[u8; 16]; 11]) -> KeySchedule<'a>
         ensures table { result.table.now ≡ table.now }
-        ensures round_keys { result.round_keys ≡ round_keys key }
-        ensures k1 { result.k1 ≡ subkey1 (cipher_by result.table.now result.round_keys) }
+        ensures round_keys { result.round_keys ≡ round_keys }
+        ensures k1 { result.k1 ≡ subkey1 (cipher_by table.now round_keys) }
     {
-        let round_keys = expand_key(key);
         let k1 = double(encrypt_with(table, round_keys, [0u8; 16]));
         KeySchedule {
             table,
             round_keys,
             k1,
         }
+    }
+
+    pub fn new(table: &'a [u8; 1024], key: [u8; 16]) -> KeySchedule<'a>
+        ensures table { result.table.now ≡ table.now }
+        ensures round_keys { result.round_keys ≡ round_keys key }
+        ensures k1 { result.k1 ≡ subkey1 (cipher_by result.table.now result.round_keys) }
+    {
+        KeySchedule::from_round_keys(table, expand_key(key))
     }
 
     fn encrypt(self, block: [u8; 16]) -> [u8; 16]

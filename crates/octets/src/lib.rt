@@ -3,14 +3,7 @@
 #![tactic(auto)]
 
 ghost use Rattle.std.specs.Prelude.{◌≡◌, get_or, set};
-ghost use Rattle.octets.specs.Bytes.{from_be16, be16_at, be32_at};
-
-// `run_cases` alone calls it.
-pub fn u16_from_be_bytes(high: u8, low: u8) -> u16
-    ensures { result ≡ from_be16 high low }
-{
-    u16::from_be_bytes([high, low])
-}
+ghost use Rattle.octets.specs.Bytes.{be16_at, be32_at};
 
 pub fn byte_at(bytes: &[u8], at: usize) -> u8
     ensures { result ≡ get_or bytes.now at 0 }

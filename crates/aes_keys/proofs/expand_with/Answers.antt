@@ -13,7 +13,7 @@ pub loop-i-init : goal.loop-i-init
 unfolding key_words
 loop-i-init c =
     let size : length c.args.key ≡ 16 = search rules in
-    (omega arith, (c.words-last.ensures, filled_first [] (sym (key_count _)) (first_key _ size)))
+    (c.words-last.ensures, filled_first [] (sym (key_count _)) (first_key _ size))
 
 pub loop-i-preserved : goal.loop-i-preserved
 loop-i-preserved c =
@@ -22,9 +22,9 @@ loop-i-preserved c =
     let inv = c.loop-i.invariant in
     let e : i ≡ i + 1 - 1 = omega arith in
     let h : i < 11 = omega arith in
-    let next = next_key key i inv.0 h inv.1.0 c.next_words-next.ensures in
+    let next = next_key key i (omega arith) h inv.0 c.next_words-next.ensures in
     let round = c.unwords.ensures ∙ ap joined next ∙ sym (round_key key i h) in
-    (omega arith, (next ∙ ap (key_words key) e, filled_more [] _ round (rw (key_count _) h) inv.1.1))
+    (next ∙ ap (key_words key) e, filled_more [] _ round (rw (key_count _) h) inv.1)
 
 pub returns : goal.returns
-returns c = filled_all [] (rw (key_count _) c.loop-i-test.false) c.loop-i.invariant.1.1
+returns c = filled_all [] (rw (key_count _) c.loop-i-test.false) c.loop-i.invariant.1

@@ -1,7 +1,6 @@
-use Prim.Native.Nat.{◌-◌, ◌≤◌}
+use Prim.Native.Nat.{◌-◌}
 use mathlib.Core.Path.{◌≡◌}
 use mathlib.Core.List.{[]}
-use lib.ListN.{get_or}
 use Rattle.aes_words.specs.Words.{words_bytes}
 use Rattle.aes_keys.proofs.KeyWords.{key_words}
 use Rattle.octets.proofs.Lists.{Filled}
@@ -9,7 +8,4 @@ use Rattle.aes_keys.specs.KeyExpansion.{round_keys}
 use Rattle.aes_keys.proofs.expand_with.Given as goal
 
 abbrev pub invariant-loop-i : goal.invariant-loop-i
-invariant-loop-i l = (1 ≤ l.i) × ((words_bytes l.last ≡ key_words (get_or l.initial.round_keys 0 []) (l.i - 1)) × Filled [] (round_keys (get_or l.initial.round_keys 0 [])) l.round_keys l.i)
-
-abbrev pub decreases-loop-i : goal.decreases-loop-i
-decreases-loop-i l = 11 - l.i
+invariant-loop-i l = (words_bytes l.last ≡ key_words l.fn.key (l.i - 1)) × Filled [] (round_keys l.fn.key) l.round_keys l.i

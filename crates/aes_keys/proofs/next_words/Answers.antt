@@ -3,4 +3,4 @@ use Rattle.aes_keys.proofs.NextWords.{next_words_law}
 use Rattle.aes_keys.proofs.next_words.Goals as goal
 
 pub returns : goal.returns
-returns c = next_words_law _ _ _ (search rules) c.rot_sub_word.ensures
+returns c = rw c.from.ensures (next_words_law _ c.args.rcon _ (search rules) c.rot_sub_word.ensures)

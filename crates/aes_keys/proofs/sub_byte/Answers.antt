@@ -7,4 +7,4 @@ use Rattle.aes_keys.proofs.sub_byte.Goals as goal
 
 pub returns : goal.returns
 unfolding sub_byte
-returns c = ap (λ (l : List ℕ). get_or l c.args.byte 0) c.requires
+returns c = rw c.from.ensures (ap (λ (l : List ℕ). get_or l c.args.byte 0) c.requires)
