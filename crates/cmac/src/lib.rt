@@ -29,13 +29,7 @@ fn shifted(byte: u8, next: u8) -> u8
 fn shift_left(block: [u8; 16]) -> [u8; 16]
     ensures { result ≡ shift_left block }
 {
-    // Not by `array::from_fn`: with it a hop MAC takes 1.5 % longer.
-    let mut out = [0; 16];
-    for i in 0..15 {
-        out[i] = shifted(block[i], block[i + 1]);
-    }
-    out[15] = shifted(block[15], 0);
-    out
+    array::from_fn(|i| shifted(block[i], if i < 15 { block[i + 1] } else { 0 }))
 }
 
 // From L to K1, and from K1 to K2.
