@@ -115,3 +115,13 @@ pub enum IngressNextAction {
     ContinueEgress { egress_interface_id: u16 },
     Complete(AsRoutingAction),
 }
+
+// ---- an answer for each step
+
+pub type IngressAnswer = Result<IngressNextAction, StandardRoutingError>;
+
+// Of the egress half and of the whole step.
+pub type StepAnswer = Result<AsRoutingAction, StandardRoutingError>;
+
+// What a list of questions comes to: each was answered yes, or the refusal of the first no.
+pub type Validation = Result<(), StandardRoutingError>;

@@ -12,7 +12,7 @@ ghost use Rattle.answers.specs.Questions.{first_no};
 ghost use Rattle.validator.specs.Check.{key_mac};
 ghost use Rattle.checks.specs.Checks.{next_field_questions, ingress_questions, egress_questions};
 
-use answers::StandardRoutingError;
+use answers::Validation;
 use cmac::KeySchedule;
 use edition::Edition;
 use hop_mac::ForwardingKey;
@@ -26,11 +26,7 @@ use validator::{StandardValidator, validate_mac};
 
 // Questions 13 to 16, and 9 to 11 for the next hop.
 #[tactic(auto, unfolding(questions::specs::Questions::asks))]
-fn validate_next(
-    interfaces: InterfaceTable<'_>,
-    at: StandardValidator,
-    path: &[u8],
-) -> Result<(), StandardRoutingError>
+fn validate_next(interfaces: InterfaceTable<'_>, at: StandardValidator, path: &[u8]) -> Validation
     ensures { result ≡ first_no (next_field_questions interfaces.entry.ids.now interfaces.entry.states.now at path.now) }
 {
     let hop_index = view::curr_hop_field_idx(path);
@@ -57,7 +53,7 @@ fn validate_checked(
     at: StandardValidator,
     path: &[u8],
     change: bool,
-) -> Result<(), StandardRoutingError>
+) -> Validation
     requires { at.ignore_macs ≡ false }
     ensures { result ≡ first_no (drop 3 (ingress_questions edition interfaces.entry.ids.now interfaces.entry.states.now
         (key_mac forwarding_key.now) at path.now change)) }
@@ -96,7 +92,7 @@ pub fn validate_ingress(
     at: StandardValidator,
     path: &[u8],
     change: bool,
-) -> Result<(), StandardRoutingError>
+) -> Validation
     ensures { result ≡ first_no (ingress_questions edition interfaces.entry.ids.now interfaces.entry.states.now
         (key_mac forwarding_key.now) at path.now change) }
 {
@@ -122,7 +118,7 @@ pub fn validate_egress(
     forwarding_key: &ForwardingKey,
     at: StandardValidator,
     path: &[u8],
-) -> Result<(), StandardRoutingError>
+) -> Validation
     ensures { result ≡ first_no (egress_questions (key_mac forwarding_key.now) at path.now) }
 {
     let hop_index = view::curr_hop_field_idx(path);

@@ -15,7 +15,7 @@ ghost use Rattle.moves.specs.Moves.{egress_move};
 ghost use Rattle.checks.specs.Checks.{egress_questions};
 ghost use Rattle.egress.specs.Egress.{leaving_action, egress_action, egress};
 
-use answers::{AsRoutingAction, LocalAsRoutingAction, StandardRoutingError};
+use answers::{AsRoutingAction, LocalAsRoutingAction, StepAnswer};
 use edition::Edition;
 use hop_mac::ForwardingKey;
 use interface_table::InterfaceTable;
@@ -41,11 +41,7 @@ fn egress_action(hop: &[u8], info: &[u8]) -> AsRoutingAction
 
 // The answer, from the path as it came.
 #[tactic(auto, using(place::proofs::Places::asked_no, place::proofs::Places::asked_yes))]
-fn decide_egress(
-    forwarding_key: &ForwardingKey,
-    at: StandardValidator,
-    path: &[u8],
-) -> Result<AsRoutingAction, StandardRoutingError>
+fn decide_egress(forwarding_key: &ForwardingKey, at: StandardValidator, path: &[u8]) -> StepAnswer
     ensures { result ≡ asks Err (egress_questions (key_mac forwarding_key.now) at path.now)
         (Ok (egress_action path.now)) }
 {
@@ -60,7 +56,7 @@ fn egress_here(
     forwarding_key: &ForwardingKey,
     at: StandardValidator,
     path: &mut [u8],
-) -> Result<AsRoutingAction, StandardRoutingError>
+) -> StepAnswer
     ensures value { result ≡ asks Err (egress_questions (key_mac forwarding_key.now) at path.old)
         (Ok (egress_action path.old)) }
     ensures path_after { path.new ≡ egress_move edition path.old }
@@ -79,7 +75,7 @@ pub fn advance_egress_with_validator(
     forwarding_key: &ForwardingKey,
     at: StandardValidator,
     path: &mut [u8],
-) -> Result<AsRoutingAction, StandardRoutingError>
+) -> StepAnswer
     ensures value { result ≡ (egress edition interfaces.entry.ids.now interfaces.entry.states.now
         (key_mac forwarding_key.now) at path.old).answer }
     ensures path_after { path.new ≡ (egress edition interfaces.entry.ids.now interfaces.entry.states.now

@@ -15,7 +15,7 @@ ghost use Rattle.moves.specs.Moves.{ingress_move};
 ghost use Rattle.checks.specs.Checks.{ingress_questions};
 ghost use Rattle.ingress.specs.Ingress.{alerts_at_ingress, leaving, ingress_action, ingress};
 
-use answers::{AsRoutingAction, IngressNextAction, LocalAsRoutingAction, StandardRoutingError};
+use answers::{AsRoutingAction, IngressAnswer, IngressNextAction, LocalAsRoutingAction};
 use edition::Edition;
 use hop_mac::ForwardingKey;
 use interface_table::InterfaceTable;
@@ -75,7 +75,7 @@ fn decide_ingress(
     at: StandardValidator,
     path: &[u8],
     place: Place,
-) -> Result<IngressNextAction, StandardRoutingError>
+) -> IngressAnswer
     ensures { result ≡ asks Err
         (ingress_questions edition interfaces.entry.ids.now interfaces.entry.states.now
         (key_mac forwarding_key.now) at path.now place.change)
@@ -94,7 +94,7 @@ fn ingress_here(
     at: StandardValidator,
     path: &mut [u8],
     place: Place,
-) -> Result<IngressNextAction, StandardRoutingError>
+) -> IngressAnswer
     ensures value { result ≡ asks Err
         (ingress_questions edition interfaces.entry.ids.now interfaces.entry.states.now
         (key_mac forwarding_key.now) at path.old place.change)
@@ -120,7 +120,7 @@ pub fn advance_ingress_with_validator(
     forwarding_key: &ForwardingKey,
     at: StandardValidator,
     path: &mut [u8],
-) -> Result<IngressNextAction, StandardRoutingError>
+) -> IngressAnswer
     ensures value { result ≡ (ingress edition interfaces.entry.ids.now interfaces.entry.states.now
         (key_mac forwarding_key.now) at path.old).answer }
     ensures path_after { path.new ≡ (ingress edition interfaces.entry.ids.now interfaces.entry.states.now

@@ -8,7 +8,7 @@ ghost use Rattle.journey.specs.Journey.{goes_on};
 ghost use Rattle.journey_stops.specs.Stop.{run};
 ghost use Rattle.journey_run.specs.Run.{end_of, left_of};
 
-use answers::{AsRoutingAction, StandardRoutingError};
+use answers::{AsRoutingAction, StepAnswer};
 use edition::Edition;
 use records::Itinerary;
 use station_step::step_at;
@@ -17,11 +17,11 @@ use station_step::step_at;
 #[derive(Clone, Copy)]
 pub struct JourneyEnd {
     pub station: usize,
-    pub answer: Result<AsRoutingAction, StandardRoutingError>,
+    pub answer: StepAnswer,
 }
 
 #[tactic(auto, unfolding(journey::specs::Journey::goes_on))]
-fn goes_on(answer: Result<AsRoutingAction, StandardRoutingError>) -> bool
+fn goes_on(answer: StepAnswer) -> bool
     ensures { result ≡ goes_on answer }
 {
     matches!(answer, Ok(AsRoutingAction::ForwardNextHop { .. }))

@@ -5,8 +5,8 @@
 ghost use Rattle.std.specs.Prelude.{◌≡◌};
 ghost use Rattle.journey_stops.specs.Number.{step_number};
 
+use answers::StepAnswer;
 use answers::number::{action_number, refusal_number};
-use answers::{AsRoutingAction, StandardRoutingError};
 
 // What every clock reads.
 #[derive(Clone, Copy)]
@@ -24,7 +24,7 @@ pub struct Stop {
 }
 
 // The number of what the step answers: one of several views of it, and so no From.
-pub fn step_number(answer: Result<AsRoutingAction, StandardRoutingError>) -> u8
+pub fn step_number(answer: StepAnswer) -> u8
     ensures { result ≡ step_number answer }
 {
     match answer {

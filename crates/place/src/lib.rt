@@ -14,7 +14,7 @@ ghost use Rattle.edition.specs.Edition.{peering_questions};
 ghost use Rattle.place.specs.Place.{before, next_hop, next_info, ingress_place, crosses, is_final, is_peering_hop};
 ghost use Rattle.place.specs.Inner.{stands, egress_place_by};
 
-use answers::{AdvanceError, StandardRoutingError};
+use answers::{AdvanceError, StandardRoutingError, Validation};
 use edition::Edition;
 use interface_table::InterfaceTable;
 use standard_path::view;
@@ -29,7 +29,7 @@ pub struct Place {
 
 // Questions 1 to 4.
 #[tactic(auto, unfolding(questions::specs::Questions::asks, standard_path::specs::Header::header_check))]
-pub fn check_before(interfaces: InterfaceTable<'_>, path: &[u8]) -> Result<(), StandardRoutingError>
+pub fn check_before(interfaces: InterfaceTable<'_>, path: &[u8]) -> Validation
     ensures { result ≡ first_no (before interfaces.entry.ids.now interfaces.entry.states.now path.now) }
 {
     if !interfaces.is_sound() {
@@ -119,7 +119,7 @@ pub fn locate_ingress(edition: Edition, path: &[u8]) -> Result<Place, StandardRo
 // Questions 5, 7, 8, 28, 5 for the next hop, and 18. The caller asks what the edition makes of the path, for speed: this function then
 // lends its path to no other.
 #[tactic(auto, unfolding(questions::specs::Questions::asks, standard_path::specs::Header::segment_index, standard_path::specs::Header::segment_among, standard_path::specs::Header::hops))]
-pub fn locate_egress(path: &[u8], fits: bool, crossing: bool) -> Result<(), StandardRoutingError>
+pub fn locate_egress(path: &[u8], fits: bool, crossing: bool) -> Validation
     ensures { result ≡ first_no (egress_place_by path.now fits crossing) }
 {
     let hop = view::curr_hop_field_idx(path);

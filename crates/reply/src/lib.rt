@@ -7,7 +7,9 @@ ghost use Rattle.reply.specs.Reply.{reply, refusal_reply, action_reply, step_rep
 ghost use Rattle.reply.specs.Reply.{reversal_reply, expiration_reply, index_reply, segment_reply, journey_reply};
 
 use answers::number::Values;
-use answers::{AsRoutingAction, IngressNextAction, StandardRoutingError, number};
+use answers::{
+    AsRoutingAction, IngressAnswer, IngressNextAction, StandardRoutingError, StepAnswer, number,
+};
 use journey_questions::answer;
 use journey_questions::answer::{JourneyError, Verdict};
 use reverse::PathReverseError;
@@ -94,7 +96,7 @@ fn action_reply(action: AsRoutingAction) -> Reply
 }
 
 #[tactic(auto, unfolding(crate::specs::Reply::step_reply))]
-pub fn step_reply(answer: Result<AsRoutingAction, StandardRoutingError>) -> Reply
+pub fn step_reply(answer: StepAnswer) -> Reply
     ensures { result ≡ step_reply answer }
 {
     match answer {
@@ -104,7 +106,7 @@ pub fn step_reply(answer: Result<AsRoutingAction, StandardRoutingError>) -> Repl
 }
 
 #[tactic(auto, unfolding(crate::specs::Reply::ingress_reply))]
-pub fn ingress_reply(answer: Result<IngressNextAction, StandardRoutingError>) -> Reply
+pub fn ingress_reply(answer: IngressAnswer) -> Reply
     ensures { result ≡ ingress_reply answer }
 {
     match answer {

@@ -15,7 +15,7 @@ ghost use Rattle.egress.specs.Egress.{egress};
 ghost use Rattle.validator.specs.Check.{key_mac, at_ingress, at_egress};
 ghost use Rattle.routing.specs.Step.{leaving_questions, step};
 
-use answers::{AsRoutingAction, IngressNextAction, StandardRoutingError};
+use answers::{IngressAnswer, IngressNextAction, StandardRoutingError, StepAnswer, Validation};
 use edition::Edition;
 use hop_mac::ForwardingKey;
 use interface_table::InterfaceTable;
@@ -32,7 +32,7 @@ pub fn standard_path_ingress(
     time: u32,
     forwarding_key: &ForwardingKey,
     ignore_macs: bool,
-) -> Result<IngressNextAction, StandardRoutingError>
+) -> IngressAnswer
     ensures value { result ≡ (ingress edition interfaces.entry.ids.now interfaces.entry.states.now
         (key_mac forwarding_key.now) (at_ingress ingress_interface_id time ignore_macs) path.old).answer }
     ensures path_after { path.new ≡ (ingress edition interfaces.entry.ids.now interfaces.entry.states.now
@@ -55,7 +55,7 @@ pub fn standard_path_egress(
     time: u32,
     forwarding_key: &ForwardingKey,
     ignore_macs: bool,
-) -> Result<AsRoutingAction, StandardRoutingError>
+) -> StepAnswer
     ensures value { result ≡ (egress edition interfaces.entry.ids.now interfaces.entry.states.now
         (key_mac forwarding_key.now) (at_egress egress_if_id time ignore_macs) path.old).answer }
     ensures path_after { path.new ≡ (egress edition interfaces.entry.ids.now interfaces.entry.states.now
@@ -74,11 +74,7 @@ pub fn standard_path_egress(
 
 // Questions 15 and 17 of the interface that the packet leaves by.
 #[tactic(auto, unfolding(questions::specs::Questions::asks))]
-fn validate_leaving(
-    interfaces: InterfaceTable<'_>,
-    out: u16,
-    path: &[u8],
-) -> Result<(), StandardRoutingError>
+fn validate_leaving(interfaces: InterfaceTable<'_>, out: u16, path: &[u8]) -> Validation
     ensures { result ≡ first_no (leaving_questions
         (state_of interfaces.entry.ids.now interfaces.entry.states.now out) out path.now) }
 {
@@ -100,7 +96,7 @@ fn validate_leaving(
 }
 
 // Where the path stands at egress. Without a segment change ingress has had a yes to all that would be asked.
-fn validate_place(edition: Edition, path: &[u8], hop_index: u8) -> Result<(), StandardRoutingError>
+fn validate_place(edition: Edition, path: &[u8], hop_index: u8) -> Validation
     ensures { result ≡ cond (eqb (curr_hf path.now) hop_index) (Ok tt) (first_no (egress_place edition path.now)) }
 {
     if view::curr_hop_field_idx(path) == hop_index {
@@ -122,7 +118,7 @@ pub fn handle_standard_path(
     time: u32,
     as_forwarding_key: &ForwardingKey,
     ignore_macs: bool,
-) -> Result<AsRoutingAction, StandardRoutingError>
+) -> StepAnswer
     ensures value { result ≡ (step edition interfaces.entry.ids.now interfaces.entry.states.now
         (key_mac as_forwarding_key.now) ingress_interface_id time ignore_macs path.old).answer }
     ensures path_after { path.new ≡ (step edition interfaces.entry.ids.now interfaces.entry.states.now

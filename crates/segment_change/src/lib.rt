@@ -10,7 +10,7 @@ ghost use Rattle.std.specs.Prelude.{◌≡◌};
 ghost use Rattle.answers.specs.Questions.{first_no};
 ghost use Rattle.validator.specs.Check.{link_questions, change_questions};
 
-use answers::StandardRoutingError;
+use answers::{StandardRoutingError, Validation};
 use interface_table::InterfaceTable;
 
 // Questions 14 to 16 of what the table has for the two interfaces.
@@ -23,7 +23,7 @@ fn validate_links(
     info: &[u8],
     next_hop: &[u8],
     next_info: &[u8],
-) -> Result<(), StandardRoutingError>
+) -> Validation
     ensures { result ≡ first_no (link_questions listed_in listed_out hop_index
         hop.now info.now next_hop.now next_info.now) }
 {
@@ -54,7 +54,7 @@ pub fn validate_segment_change(
     info: &[u8],
     next_hop: &[u8],
     next_info: &[u8],
-) -> Result<(), StandardRoutingError>
+) -> Validation
     ensures { result ≡ first_no (change_questions interfaces.entry.ids.now interfaces.entry.states.now hop_index
         hop.now info.now next_hop.now next_info.now) }
 {

@@ -6,7 +6,7 @@ ghost use Rattle.records.specs.Layout.{layout_of};
 ghost use Rattle.station.specs.Station.{station_at};
 ghost use Rattle.journey.specs.Journey.{step_at};
 
-use answers::{AsRoutingAction, StandardRoutingError};
+use answers::{StandardRoutingError, StepAnswer};
 use edition::Edition;
 use interface_table::{InterfaceTable, MAX_ENTRIES};
 use records::Itinerary;
@@ -66,7 +66,7 @@ pub fn step_at(
     station: u32,
     path: &mut [u8],
     time: u32,
-) -> Result<AsRoutingAction, StandardRoutingError>
+) -> StepAnswer
     ensures value { result ≡ (step_at edition (station_at (layout_of itinerary.entry.form) itinerary.entry.bytes.now station)
         time path.old).answer }
     ensures path_after { path.new ≡ (step_at edition

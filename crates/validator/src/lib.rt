@@ -12,7 +12,7 @@ ghost use Rattle.validator.specs.Check.{mac_number, interface_fits, wrong_interf
 ghost use Rattle.validator.specs.Inner.{schedule_mac};
 ghost use Rattle.validator.specs.Check.{field_questions, mac_questions};
 
-use answers::StandardRoutingError;
+use answers::{StandardRoutingError, Validation};
 use cmac::KeySchedule;
 use hop_mac::calculate_hop_mac_with;
 
@@ -94,12 +94,7 @@ impl StandardValidator {
 
     // Questions 9 to 11 at ingress, 19, 10 and 11 at egress: those that ask for no MAC.
     #[tactic(auto, unfolding(questions::specs::Questions::asks))]
-    pub fn validate_hop(
-        self,
-        hop_index: u8,
-        hop: &[u8],
-        info: &[u8],
-    ) -> Result<(), StandardRoutingError>
+    pub fn validate_hop(self, hop_index: u8, hop: &[u8], info: &[u8]) -> Validation
         ensures { result ≡ first_no (field_questions self hop_index hop.now info.now) }
     {
         if !self.interface_fits(hop, info) {
@@ -123,7 +118,7 @@ pub fn validate_mac(
     hop: &[u8],
     info: &[u8],
     segment_id: u16,
-) -> Result<(), StandardRoutingError>
+) -> Validation
     ensures { result ≡ first_no (mac_questions (schedule_mac schedule.entry.table.now schedule.entry.round_keys schedule.entry.k1) false hop_index
         hop.now info.now segment_id) }
 {
