@@ -4,42 +4,44 @@ use mathlib.Core.Path.{◌≡◌, refl, ap, ◌∙◌}
 use mathlib.Core.List.{List}
 use Prim.Native.Nat.{ℕ}
 use native.Mathlib.Omega.{arith}
+use Rattle.std.specs.Prelude.{Result, Ok, Err}
 use Rattle.standard_path.specs.declared.view.HeaderError.TheVariants.{MetaTooShort, DataTooShort, TooManyHops}
 use Rattle.edition.specs.declared.Edition.{Edition}
 use Rattle.records.specs.Layout.{Layout}
+use Rattle.journey_questions.specs.declared.answer.JourneyError.{JourneyError}
 use Rattle.journey_questions.specs.declared.answer.JourneyError.TheVariants.{HeaderFailed, UnfitItinerary, NotAtStart, AlertSet}
 use Rattle.journey_questions.specs.declared.answer.Verdict.{Verdict}
-use Rattle.journey_questions.specs.declared.answer.Verdict.TheVariants.{Passed, NotPassed, Refused}
+use Rattle.journey_questions.specs.declared.answer.Verdict.TheVariants.{Passed, NotPassed}
 use Rattle.journey.specs.Verdict.{journey_check, Demand3}
 use Rattle.reply.specs.Reply.{journey_reply}
 use Rattle.reply.specs.declared.Reply.{Reply}
 use Rattle.exports.specs.Journey.{SaysWhatTravels}
 
-passed_number : (verdict : Verdict) → (journey_reply verdict).number ≡ 120 → verdict ≡ Passed
+passed_number : (answer : Result Verdict JourneyError) → (journey_reply answer).number ≡ 120 → answer ≡ Ok Passed
 unfolding journey_reply
-passed_number Passed e = refl
-passed_number NotPassed e = absurd (omega arith)
-passed_number (Refused (HeaderFailed MetaTooShort)) e = absurd (omega arith)
-passed_number (Refused (HeaderFailed DataTooShort)) e = absurd (omega arith)
-passed_number (Refused (HeaderFailed TooManyHops)) e = absurd (omega arith)
-passed_number (Refused UnfitItinerary) e = absurd (omega arith)
-passed_number (Refused NotAtStart) e = absurd (omega arith)
-passed_number (Refused AlertSet) e = absurd (omega arith)
+passed_number (Ok Passed) e = refl
+passed_number (Ok NotPassed) e = absurd (omega arith)
+passed_number (Err (HeaderFailed MetaTooShort)) e = absurd (omega arith)
+passed_number (Err (HeaderFailed DataTooShort)) e = absurd (omega arith)
+passed_number (Err (HeaderFailed TooManyHops)) e = absurd (omega arith)
+passed_number (Err UnfitItinerary) e = absurd (omega arith)
+passed_number (Err NotAtStart) e = absurd (omega arith)
+passed_number (Err AlertSet) e = absurd (omega arith)
 
-number_passed : (verdict : Verdict) → verdict ≡ Passed → (journey_reply verdict).number ≡ 120
+number_passed : (answer : Result Verdict JourneyError) → answer ≡ Ok Passed → (journey_reply answer).number ≡ 120
 unfolding journey_reply
-number_passed verdict e = rw e
+number_passed answer e = rw e
 
 -- both promises of the exported check, from those of the check
 pub says_what_travels : (edition : Edition) (layout : Layout) (itinerary : List ℕ) (earliest latest : ℕ) (path : List ℕ)
-    {verdict : Verdict} {reply : Reply} → verdict ≡ journey_check edition layout itinerary earliest latest path
-    → Demand3 edition layout itinerary earliest latest path verdict → reply ≡ journey_reply verdict
+    {answer : Result Verdict JourneyError} {reply : Reply} → answer ≡ journey_check edition layout itinerary earliest latest path
+    → Demand3 edition layout itinerary earliest latest path answer → reply ≡ journey_reply answer
     → (reply ≡ journey_reply (journey_check edition layout itinerary earliest latest path))
     × SaysWhatTravels edition layout itinerary earliest latest path reply.number
 unfolding Demand3 SaysWhatTravels
-says_what_travels edition layout itinerary earliest latest path {verdict} {reply} e demand told = (
+says_what_travels edition layout itinerary earliest latest path {answer} {reply} e demand told = (
   told ∙ ap journey_reply e,
   λ through.
       let exactly = demand through in
-      rw told ((λ n. exactly.0 (passed_number verdict n)), (λ t. number_passed verdict (exactly.1 t))),
+      rw told ((λ n. exactly.0 (passed_number answer n)), (λ t. number_passed answer (exactly.1 t))),
 )

@@ -1,5 +1,6 @@
 // The calls of C. Each takes any bytes, numbers and lengths; a pointer that is not valid for its length, or an argument that is written
 // and overlaps another, is the caller's fault.
+// Slices, numbers and flags stand where the crates below have structs and enums, since C has none of those.
 ghost use Rattle.std.specs.Prelude.{◌≡◌};
 ghost use Rattle.cmac.specs.Cmac.{aes_cmac};
 ghost use Rattle.hop_mac.specs.Mac.{hop_mac};
@@ -15,10 +16,8 @@ ghost use Rattle.journey.specs.Verdict.{journey_check};
 ghost use Rattle.reply.specs.Reply.{step_reply, ingress_reply, reversal_reply, expiration_reply, segment_reply, journey_reply};
 ghost use Rattle.exports.specs.Journey.{SaysWhatTravels};
 
-use edition::Edition;
-use journey_check::verdict;
+use crate::editions;
 use reply::Reply;
-use routing::step;
 
 // The version of these calls, which each change to one of them or to what it answers raises. The name has it too: a program that
 // asks for it does not link with an archive of another version.
@@ -46,8 +45,8 @@ pub extern "C" fn scion_handle_standard_path(
     ensures path_after { path.new ≡ (step First ids.now states.now (key_mac as_forwarding_key.now)
         ingress_interface_id time ignore_macs path.old).bytes }
 {
-    let answer = step::handle_standard_path(
-        Edition::First,
+    editions::scion_handle_standard_path_in_edition(
+        false,
         ids,
         states,
         path,
@@ -55,8 +54,7 @@ pub extern "C" fn scion_handle_standard_path(
         time,
         as_forwarding_key,
         ignore_macs,
-    );
-    reply::step_reply(answer)
+    )
 }
 
 #[unsafe(no_mangle)]
@@ -74,8 +72,8 @@ pub extern "C" fn scion_standard_path_ingress(
     ensures path_after { path.new ≡ (ingress First ids.now states.now (key_mac forwarding_key.now)
         (at_ingress ingress_interface_id time ignore_macs) path.old).bytes }
 {
-    let answer = step::standard_path_ingress(
-        Edition::First,
+    editions::scion_standard_path_ingress_in_edition(
+        false,
         ids,
         states,
         path,
@@ -83,8 +81,7 @@ pub extern "C" fn scion_standard_path_ingress(
         time,
         forwarding_key,
         ignore_macs,
-    );
-    reply::ingress_reply(answer)
+    )
 }
 
 #[unsafe(no_mangle)]
@@ -102,8 +99,8 @@ pub extern "C" fn scion_standard_path_egress(
     ensures path_after { path.new ≡ (egress First ids.now states.now (key_mac forwarding_key.now)
         (at_egress egress_if_id time ignore_macs) path.old).bytes }
 {
-    let answer = step::standard_path_egress(
-        Edition::First,
+    editions::scion_standard_path_egress_in_edition(
+        false,
         ids,
         states,
         path,
@@ -111,8 +108,7 @@ pub extern "C" fn scion_standard_path_egress(
         time,
         forwarding_key,
         ignore_macs,
-    );
-    reply::step_reply(answer)
+    )
 }
 
 // ---- the path by itself
@@ -152,7 +148,7 @@ pub extern "C" fn scion_check_journey(
     ensures value { result ≡ journey_reply (journey_check First narrow itinerary.now earliest latest path.now) }
     ensures says_what_travels { SaysWhatTravels First narrow itinerary.now earliest latest path.now result.number }
 {
-    reply::journey_reply(verdict::check_journey(Edition::First, path, itinerary, earliest, latest))
+    editions::scion_check_journey_in_edition(false, path, itinerary, earliest, latest)
 }
 
 // ---- MACs

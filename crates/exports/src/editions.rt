@@ -10,7 +10,8 @@ ghost use Rattle.journey.specs.Verdict.{journey_check};
 ghost use Rattle.reply.specs.Reply.{step_reply, ingress_reply, journey_reply};
 ghost use Rattle.exports.specs.Journey.{SaysWhatTravels};
 
-use edition::edition_of;
+use edition::Edition;
+use interface_table::InterfaceTable;
 use journey_check::verdict;
 use reply::Reply;
 use routing::step;
@@ -32,9 +33,8 @@ pub extern "C" fn scion_handle_standard_path_in_edition(
         (key_mac as_forwarding_key.now) ingress_interface_id time ignore_macs path.old).bytes }
 {
     let answer = step::handle_standard_path(
-        edition_of(is_second),
-        ids,
-        states,
+        Edition::from(is_second),
+        InterfaceTable { ids, states },
         path,
         ingress_interface_id,
         time,
@@ -61,9 +61,8 @@ pub extern "C" fn scion_standard_path_ingress_in_edition(
         (key_mac forwarding_key.now) (at_ingress ingress_interface_id time ignore_macs) path.old).bytes }
 {
     let answer = step::standard_path_ingress(
-        edition_of(is_second),
-        ids,
-        states,
+        Edition::from(is_second),
+        InterfaceTable { ids, states },
         path,
         ingress_interface_id,
         time,
@@ -90,9 +89,8 @@ pub extern "C" fn scion_standard_path_egress_in_edition(
         (key_mac forwarding_key.now) (at_egress egress_if_id time ignore_macs) path.old).bytes }
 {
     let answer = step::standard_path_egress(
-        edition_of(is_second),
-        ids,
-        states,
+        Edition::from(is_second),
+        InterfaceTable { ids, states },
         path,
         egress_if_id,
         time,
@@ -116,7 +114,7 @@ pub extern "C" fn scion_check_journey_in_edition(
         result.number }
 {
     reply::journey_reply(verdict::check_journey(
-        edition_of(is_second),
+        Edition::from(is_second),
         path,
         itinerary,
         earliest,
