@@ -5,7 +5,7 @@ use lib.ListN.{get_or}
 use Rattle.aes_sbox.specs.Field.{sub_byte}
 use Rattle.aes_words.specs.Words.{word_bytes}
 use Rattle.aes_keys.specs.KeyExpansion.{sub_word, rot_word}
-use Rattle.aes_keys.proofs.rot_sub_word.Goals as goal
+use Rattle.aes_keys.proofs.SBox.rot_sub_word.Goals as goal
 
 pub returns : goal.returns
 unfolding sub_word rot_word word_bytes

@@ -7,7 +7,7 @@ use lib.ListN.{length}
 use Rattle.aes_keys.proofs.KeyWords.{key_words, round_key, first_key, key_count, next_key}
 use Rattle.octets.proofs.Lists.{filled_first, filled_more, filled_all}
 use Rattle.aes_words.specs.Block.{joined}
-use Rattle.aes_keys.proofs.expand_with.Goals as goal
+use Rattle.aes_keys.proofs.SBox.expand.Goals as goal
 
 pub loop-i-init : goal.loop-i-init
 unfolding key_words
