@@ -43,7 +43,7 @@ pub fn refusal_number(why: StandardRoutingError) -> u8
 
 // ---- the values
 
-// The values of an answer, in 01's order, and 0 in the places behind the last. C, which has no slices, reads both fields.
+// The values of an answer, in 01's order, and 0 in the places behind the last. `Reply` hands both on to C, which has no slices.
 #[derive(Clone, Copy)]
 pub struct Values {
     pub count: u8,

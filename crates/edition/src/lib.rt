@@ -10,8 +10,8 @@ ghost use Rattle.edition.specs.Edition.{flagged, peering_placed, peering_fits};
 
 use standard_path::view;
 
-// `First` is the Rust's step: P has no meaning. `Second` has the draft's rule for peering paths. Edition and path stay two parameters: a
-// struct of both would be lent once to be read and once to be moved, and is no plainer.
+// `First` is the Rust's step: P has no meaning. `Second` has the draft's rule for peering paths. In the step edition and path stay
+// two parameters: a struct of both would be lent once to be read and once to be moved, and is no plainer.
 #[derive(Clone, Copy)]
 pub enum Edition {
     First,

@@ -23,7 +23,7 @@ use moves::CurrentHop;
 use standard_path::view;
 use validator::StandardValidator;
 
-// What is done with the packet, once every check has passed. The parts of the path are handed on to field readers: the user's shape.
+// What is done with the packet, once every check has passed. The parts of the path are handed on to field readers, as 01 has it.
 #[tactic(auto, unfolding(crate::specs::Egress::leaving_action))]
 fn egress_action(hop: &[u8], info: &[u8]) -> AsRoutingAction
     ensures { result ≡ leaving_action hop.now info.now }

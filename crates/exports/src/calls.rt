@@ -1,6 +1,6 @@
 // The calls of C. Each takes any bytes, numbers and lengths; a pointer that is not valid for its length, or an argument that is written
 // and overlaps another, is the caller's fault.
-// Slices, numbers and flags stand where the crates below have structs and enums, since C has none of those.
+// Slices, numbers and flags stand where the crates below have structs and enums, since C knows none of Rattle's.
 ghost use Rattle.std.specs.Prelude.{◌≡◌};
 ghost use Rattle.cmac.specs.Cmac.{aes_cmac};
 ghost use Rattle.hop_mac.specs.Mac.{hop_mac};

@@ -1,8 +1,8 @@
 // An AS's interface table: interface numbers beside their state bytes, in place of pocketscion's lookup closure.
 //
 // Ported from crates/pocketscion/src/network/scion/routing.rs (link types, interface states) and routing/spec/standard.rs (the pairs of
-// links at a segment change) of Anapaya/scion-sdk at commit 866faf5ba3, and changed: rewritten in Rattle, with contracts; link types and
-// interface states come as bytes, and the lookup goes along two lent lists.
+// links at a segment change) of Anapaya/scion-sdk at commit 866faf5ba3, and changed: rewritten in Rattle, with contracts; an interface's
+// state comes as a byte, from which its link type is read, and the lookup goes along two lent lists.
 // Copyright 2025 Anapaya Systems
 // Licensed under the Apache License, Version 2.0: see NOTICE.
 #![tactic(auto)]

@@ -41,7 +41,7 @@ impl CurrentHop {
 
 // ---- the beta step
 
-// The SegID after a beta step of a hop. The parts of the path are handed on to field readers: the user's shape.
+// The SegID after a beta step of a hop. The parts of the path are handed on to field readers, as 01 has it.
 fn stepped_segment_id(hop: &[u8], info: &[u8]) -> u16
     ensures { result ≡ mac_beta_step (seg_id info.now) (mac_field hop.now) }
 {
