@@ -6,29 +6,25 @@ use mathlib.Core.List.{List, [], ◌∷◌, ◌++◌}
 use mathlib.Core.Path.{◌≡◌, refl}
 use lib.Dec.{eqb}
 use lib.ListN.{replicate, drop}
+use Rattle.std.specs.Prelude.{Result, Ok, Err}
 use Rattle.hop_mac.specs.Mac.{mac_beta_step, mac_chaining_beta}
 use Rattle.standard_path.specs.Meta.{set_curr_inf, set_curr_hf}
 use Rattle.fields.specs.Fields.{cons_dir, seg_id, timestamp, cons_egress_alert, cons_ingress_alert, exp_time, cons_ingress, cons_egress, mac_field, travel_ingress, travel_egress, travel_ingress_alert, travel_egress_alert, expiry}
 use Rattle.standard_path.specs.Header.{infos, hops, header_size, info_field, hop_field, header_check}
 use Rattle.writes.specs.Writes.{set_seg_id, clear_ingress_alert}
-use Rattle.standard_path.specs.declared.view.HeaderCheck.{HeaderCheck}
-use Rattle.standard_path.specs.declared.view.HeaderCheck.TheVariants.{Complete, Failed as Failing}
+use Rattle.standard_path.specs.declared.view.HeaderError.{HeaderError}
 use Rattle.standard_path.specs.declared.view.HeaderError.TheVariants.{MetaTooShort, DataTooShort, TooManyHops}
 use Rattle.segments.specs.Segments.{segments, segment_count}
 use Rattle.reverse_parts.specs.Parts.{set_lengths, swap_lengths, toggle_cons_dir, toggle_cons_dirs, last_first, reverse_fields, reverse_parts}
 use Rattle.reverse.specs.Reverse.{reverse_number, reversed, reverse_answer, bytes_left, reverse_bytes}
-use Rattle.reverse.specs.declared.Reversal.{Reversal}
-use Rattle.reverse.specs.declared.Reversal.TheVariants.{Reversed, Failed}
+use Rattle.reverse.specs.declared.PathReverseError.{PathReverseError}
 use Rattle.interface_table.specs.Table.{ids_ascending, states_sound, table_sound, state_of, link_type, is_up, is_among, pair_allowed}
 use Rattle.questions.specs.Questions.{asks, all_yes}
 use Rattle.validator.specs.Check.{mac_number, right_mac, key_mac, at_ingress}
-use Rattle.answers.specs.Answer.{refusal_number, refusal_values}
+use Rattle.answers.specs.Answer.{StepAnswer, IngressAnswer, refusal_number, refusal_values}
 use Rattle.answers.specs.declared.LocalAsRoutingAction.TheVariants.{IngressSCMPHandleRequest, EgressSCMPHandleRequest, ForwardLocal}
 use Rattle.answers.specs.declared.AsRoutingAction.TheVariants.{Local, ForwardNextHop}
-use Rattle.answers.specs.declared.IngressNextAction.{IngressNextAction}
 use Rattle.answers.specs.declared.StandardRoutingError.TheVariants.{InvalidMacError}
-use Rattle.answers.specs.declared.StepAnswer.{StepAnswer}
-use Rattle.answers.specs.declared.StepAnswer.TheVariants.{Action, Refused}
 use Rattle.edition.specs.declared.Edition.TheVariants.{First}
 use Rattle.answers.specs.Outcome.{Outcome}
 use Rattle.moves.specs.Moves.{stepped, ingress_move, egress_move}
@@ -48,6 +44,7 @@ use Rattle.segment_check.specs.Segment.{each_below, macs_from, chained_seg_id, s
 use Rattle.hop_check.specs.Hop.{mac_fits, arrives_by, leaves_by, hop_fits}
 use Rattle.journey_questions.specs.Questions.{questions, quiet}
 use Rattle.journey.specs.Verdict.{journey_check}
+use Rattle.journey_questions.specs.declared.answer.JourneyError.{JourneyError}
 use Rattle.journey_questions.specs.declared.answer.Verdict.{Verdict}
 use Rattle.journey_questions.specs.declared.answer.Verdict.TheVariants.{Passed, NotPassed}
 use Rattle.journey.specs.Journey.{step_at, goes_on, journey, delivers, ended_well, arrives}
@@ -71,8 +68,8 @@ outcome answer bytes = record { answer = answer; bytes = bytes }
 
 -- 01's number of a refusal, and its values; 0 for an action
 abbrev refusal : StepAnswer → ℕ × List ℕ
-refusal (Refused why) = (refusal_number why, refusal_values why)
-refusal (Action action) = (0, [])
+refusal (Err why) = (refusal_number why, refusal_values why)
+refusal (Ok action) = (0, [])
 
 -- when a hop ends, from its info field and its hop field
 abbrev ends : List ℕ → List ℕ → ℕ
@@ -86,7 +83,7 @@ is_right path i h =
 
 -- ---- what the rows compute: to unfold one of these is to unfold whatever its own line names
 
-check : List ℕ → HeaderCheck
+check : List ℕ → Result Unit HeaderError
 unfolding asks infos hops header_size header_check
 check path = header_check path
 
@@ -102,7 +99,7 @@ sound : Bool
 unfolding ids_ascending states_sound table_sound state_of link_type is_up is_among pair_allowed
 sound = table_sound ids states
 
-came : ℕ → ℕ → Bool → List ℕ → Outcome IngressNextAction
+came : ℕ → ℕ → Bool → List ℕ → Outcome IngressAnswer
 unfolding ended sound asks mac_number set_seg_id clear_ingress_alert set_curr_hf set_curr_inf stepped ingress_move ingress_action ingress
 came interface time unchecked path = ingress First ids states (key_mac key) (at_ingress interface time unchecked) path
 
@@ -182,9 +179,9 @@ abbrev back : List ℕ
 back = info_of 0x00 0x58 0x1f ++ (info_of 0x01 0x9b 0x20 ++ (down_2 ++ (down_1 ++ (down_0 ++ (up_1 ++ up_0)))))
 
 -- 01's number of a reversal that failed; 0 for one that did not
-abbrev failure : Reversal → ℕ
-failure (Failed why) = reverse_number why
-failure Reversed = 0
+abbrev failure : Result Unit PathReverseError → ℕ
+failure (Err why) = reverse_number why
+failure (Ok done) = 0
 
 turned : List ℕ → List ℕ
 unfolding check set_curr_hf set_curr_inf segments segment_count set_lengths swap_lengths toggle_cons_dir toggle_cons_dirs last_first reverse_fields reverse_parts reversed reverse_answer bytes_left reverse_bytes
@@ -224,7 +221,7 @@ let_through path = all_yes (questions First narrow plan 1000 1337 path)
 abbrev gets_there : List ℕ → Bool
 gets_there path = arrives (step_at First) (stations narrow plan) (1000 ∷ 1337 ∷ []) path
 
-abbrev checked : List ℕ → Verdict
+abbrev checked : List ℕ → Result Verdict JourneyError
 checked path = journey_check First narrow plan 1000 1337 path
 
 -- the two stations
@@ -238,7 +235,7 @@ planned : Bool
 unfolding every record_count bytes_of next_of arrival_of first_interface_of key_of interface_number_of interface_state_of chain_within size_sound next_sound are_zero zeros_sound is_no_station interface_sound station_sound head_sound sound_of station_with stations_of tables_sound arrivals_fit plan_fits itinerary_fits
 planned = itinerary_fits narrow plan 2
 
-asked : List ℕ → Verdict
+asked : List ℕ → Result Verdict JourneyError
 unfolding came planned all_yes quiet each_below upper lower journey_check
 asked path = checked path
 
@@ -254,15 +251,15 @@ stations_are = refl
 abbrev passed_on : ℕ → List ℕ
 passed_on last = 0x01 ∷ 0x00 ∷ 0x20 ∷ 0x00 ∷ 0x01 ∷ 0x00 ∷ 0x58 ∷ 0x1f ∷ drop 8 (two_hops last)
 
-at_upper : (last : ℕ) → step_at First upper 1000 (two_hops last) ≡ outcome (Action (ForwardNextHop 1)) (passed_on last)
+at_upper : (last : ℕ) → step_at First upper 1000 (two_hops last) ≡ outcome (Ok (ForwardNextHop 1)) (passed_on last)
 unfolding went step_at upper
 at_upper last = rw mac_down_0 (rw mac_down_0)
 
-at_lower : step_at First lower 1337 (passed_on 0x15) ≡ outcome (Action (Local ForwardLocal)) (passed_on 0x15)
+at_lower : step_at First lower 1337 (passed_on 0x15) ≡ outcome (Ok (Local ForwardLocal)) (passed_on 0x15)
 unfolding went step_at lower
 at_lower = rw mac_last
 
-refused_at_lower : step_at First lower 1337 (passed_on 0x16) ≡ outcome (Refused (InvalidMacError 1 0xd1460ce3b115 0xd1460ce3b116)) (passed_on 0x16)
+refused_at_lower : step_at First lower 1337 (passed_on 0x16) ≡ outcome (Err (InvalidMacError 1 0xd1460ce3b115 0xd1460ce3b116)) (passed_on 0x16)
 unfolding went step_at lower
 refused_at_lower = rw mac_last
 
@@ -287,20 +284,20 @@ not_there = rw (stations_are, at_upper 0x16, refused_at_lower)
 
 pub record Table : Type 0 where
   -- (0,0,0) needs 4 bytes
-  pub row_a : (header_size (replicate 4 0) ≡ 4) × (header_check (replicate 4 0) ≡ Complete) × (header_check (replicate 3 0) ≡ Failing MetaTooShort)
+  pub row_a : (header_size (replicate 4 0) ≡ 4) × (header_check (replicate 4 0) ≡ Ok tt) × (header_check (replicate 3 0) ≡ Err MetaTooShort)
   -- (2,0,2) needs 68
-  pub row_b : (header_size (path_b 64) ≡ 68) × (header_check (path_b 64) ≡ Complete) × (header_check (path_b 63) ≡ Failing DataTooShort)
+  pub row_b : (header_size (path_b 64) ≡ 68) × (header_check (path_b 64) ≡ Ok tt) × (header_check (path_b 63) ≡ Err DataTooShort)
   -- (22,21,21) needs 796; (22,21,22) in 808 bytes gives 4
   pub row_c : (interface time : ℕ) (unchecked : Bool)
       → (header_size (path_c 0x55 792) ≡ 796)
-      × (header_check (path_c 0x55 792) ≡ Complete)
-      × (header_check (path_c 0x55 791) ≡ Failing DataTooShort)
-      × (header_check (path_c 0x56 804) ≡ Failing TooManyHops)
+      × (header_check (path_c 0x55 792) ≡ Ok tt)
+      × (header_check (path_c 0x55 791) ≡ Err DataTooShort)
+      × (header_check (path_c 0x56 804) ≡ Err TooManyHops)
       × (refusal (goes interface time unchecked (path_c 0x56 804)).answer ≡ (4, []))
       × ((goes interface time unchecked (path_c 0x56 804)).bytes ≡ path_c 0x56 804)
   -- timestamp 1000, ExpTime 0: expiry 1337; now 1337 goes, 1338 gives 11
   pub row_d : (ends (info_field (down 0x01 0x58 0x1f 0x00) 0) (hop_field (down 0x01 0x58 0x1f 0x00) 1) ≡ 1337)
-      × ((goes 3 1337 false (down 0x01 0x58 0x1f 0x00)).answer ≡ Action (ForwardNextHop 1))
+      × ((goes 3 1337 false (down 0x01 0x58 0x1f 0x00)).answer ≡ Ok (ForwardNextHop 1))
       × (refusal (goes 3 1338 false (down 0x01 0x58 0x1f 0x00)).answer ≡ (11, 1 ∷ []))
       × ((goes 3 1338 false (down 0x01 0x58 0x1f 0x00)).bytes ≡ down 0x01 0x58 0x1f 0x00)
   -- timestamp 1000, ExpTime 255: 87400
@@ -325,28 +322,28 @@ pub record Table : Type 0 where
       × (refusal (goes interface time unchecked path_j).answer ≡ (6, []))
       × ((goes interface time unchecked path_j).bytes ≡ path_j)
   -- (2,3,0), CurrHF 1, CurrINF 0, reversed: (3,2,0), CurrHF 3, CurrINF 1
-  pub row_k : (reverse_answer (0x01 ∷ 0x00 ∷ 0x20 ∷ 0xc0 ∷ forth) ≡ Reversed)
+  pub row_k : (reverse_answer (0x01 ∷ 0x00 ∷ 0x20 ∷ 0xc0 ∷ forth) ≡ Ok tt)
       × (reverse_bytes (0x01 ∷ 0x00 ∷ 0x20 ∷ 0xc0 ∷ forth) ≡ 0x43 ∷ 0x00 ∷ 0x30 ∷ 0x80 ∷ back)
   -- (2,3,0), CurrHF 5: 21, lengths (3,2,0)
   pub row_l : (failure (reverse_answer (0x05 ∷ 0x00 ∷ 0x20 ∷ 0xc0 ∷ forth)) ≡ 21)
       × (reverse_bytes (0x05 ∷ 0x00 ∷ 0x20 ∷ 0xc0 ∷ forth) ≡ 0x05 ∷ 0x00 ∷ 0x30 ∷ 0x80 ∷ forth)
   -- a path forwarded: SegID stepped, CurrHF from 1 to 2
-  pub row_forwarded : goes 3 1337 false (down 0x01 0x58 0x1f 0x00) ≡ outcome (Action (ForwardNextHop 1)) (down 0x02 0xbf 0x7b 0x00)
+  pub row_forwarded : goes 3 1337 false (down 0x01 0x58 0x1f 0x00) ≡ outcome (Ok (ForwardNextHop 1)) (down 0x02 0xbf 0x7b 0x00)
   -- one delivered, unchanged
-  pub row_delivered : goes 3 1337 false (down 0x02 0xbf 0x7b 0x00) ≡ outcome (Action (Local ForwardLocal)) (down 0x02 0xbf 0x7b 0x00)
+  pub row_delivered : goes 3 1337 false (down 0x02 0xbf 0x7b 0x00) ≡ outcome (Ok (Local ForwardLocal)) (down 0x02 0xbf 0x7b 0x00)
   -- a segment change gone through, from child to child: both SegIDs stepped, CurrINF from 0 to 1, CurrHF from 1 to 3
   pub row_change : goes 1 1337 false (changing 0x01 (up_down 0x9b 0x20 0x9a 0xbc))
-      ≡ outcome (Action (ForwardNextHop 2)) (changing 0x43 (up_down 0x56 0x78 0xb7 0x01))
+      ≡ outcome (Ok (ForwardNextHop 2)) (changing 0x43 (up_down 0x56 0x78 0xb7 0x01))
   -- an ingress alert handled: cleared, and the packet goes no further
   pub row_ingress_alert : goes 3 1337 false (down 0x01 0x58 0x1f 0x02)
-      ≡ outcome (Action (Local (IngressSCMPHandleRequest 3))) (down 0x01 0x58 0x1f 0x00)
+      ≡ outcome (Ok (Local (IngressSCMPHandleRequest 3))) (down 0x01 0x58 0x1f 0x00)
   -- an egress alert handled: cleared, and the path is moved as for one forwarded
   pub row_egress_alert : goes 3 1337 false (down 0x01 0x58 0x1f 0x01)
-      ≡ outcome (Action (Local (EgressSCMPHandleRequest 1))) (down 0x02 0xbf 0x7b 0x00)
+      ≡ outcome (Ok (Local (EgressSCMPHandleRequest 1))) (down 0x02 0xbf 0x7b 0x00)
   -- a journey: let through, it arrives, and the check passes it
-  pub row_arrives : (let_through (two_hops 0x15) ≡ true) × (gets_there (two_hops 0x15) ≡ true) × (checked (two_hops 0x15) ≡ Passed)
+  pub row_arrives : (let_through (two_hops 0x15) ≡ true) × (gets_there (two_hops 0x15) ≡ true) × (checked (two_hops 0x15) ≡ Ok Passed)
   -- with another last MAC: let through, it does not arrive, and the check does not pass it
-  pub row_fails : (let_through (two_hops 0x16) ≡ true) × (gets_there (two_hops 0x16) ≡ false) × (checked (two_hops 0x16) ≡ NotPassed)
+  pub row_fails : (let_through (two_hops 0x16) ≡ true) × (gets_there (two_hops 0x16) ≡ false) × (checked (two_hops 0x16) ≡ Ok NotPassed)
 
 pub table : Table
 unfolding went turned asked
