@@ -56,7 +56,9 @@ impl<'a> SBox<'a> {
         let rcon = RCON;
         let mut round_keys = [key; 11];
         let mut last = words(key);
+        // By the number of the round, which is the place in both arrays.
         for i in 1..11 {
+            // Two steps: the borrow checker does not yet cover a call whose result is laid in an array that it is given.
             let next = self.next_words(last, rcon[i]);
             last = next;
             round_keys[i] = unwords(last);

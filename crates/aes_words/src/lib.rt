@@ -11,12 +11,13 @@ use std::array;
 pub fn word(byte0: u8, byte1: u8, byte2: u8, byte3: u8) -> u32
     ensures { word_bytes result ≡ byte0 ∷ byte1 ∷ byte2 ∷ byte3 ∷ [] }
 {
-    (byte0 as u32)
-        + (byte1 as u32) * 0x100
-        + (byte2 as u32) * 0x1_0000
-        + (byte3 as u32) * 0x100_0000
+    u32::from(byte0)
+        + u32::from(byte1) * 0x100
+        + u32::from(byte2) * 0x1_0000
+        + u32::from(byte3) * 0x100_0000
 }
 
+// Not by `from_fn`: sixteen places worked out from `i` are no plainer than the places themselves.
 pub fn words(block: [u8; 16]) -> [u32; 4]
     ensures { words_bytes result ≡ block_words block }
 {
@@ -34,6 +35,8 @@ pub fn unwords(words: [u32; 4]) -> [u8; 16]
     array::from_fn(|i| words[i / 4].to_le_bytes()[i % 4])
 }
 
+// One generic function for this and cmac's `xor_block` is no plainer: they promise different things, and xor over a type parameter
+// has its promise in a trait's ghost member.
 pub fn xor_words(left: [u32; 4], right: [u32; 4]) -> [u32; 4]
     ensures { state_bytes result ≡ xor_block (state_bytes left) (state_bytes right) }
 {

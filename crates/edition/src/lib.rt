@@ -68,7 +68,7 @@ pub fn is_peering_path(edition: Edition, path: &[u8]) -> bool
 fn ends_first_segment(path: &[u8], hop: u8) -> bool
     ensures { result ≡ eqb (hop + 1) (seg0_len path.now) }
 {
-    hop as u16 + 1 == view::seg0_len(path) as u16
+    u16::from(hop) + 1 == u16::from(view::seg0_len(path))
 }
 
 // The first of the two: egress there moves CurrINF too.

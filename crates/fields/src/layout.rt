@@ -69,7 +69,7 @@ impl InfoFieldLayout {
     pub fn offset(index: u8) -> usize
         ensures { result ≡ info_offset index }
     {
-        StdPathMetaLayout::SIZE_BYTES + InfoFieldLayout::SIZE_BYTES * (index as usize)
+        StdPathMetaLayout::SIZE_BYTES + InfoFieldLayout::SIZE_BYTES * usize::from(index)
     }
 }
 
@@ -101,7 +101,7 @@ impl HopFieldLayout {
         ensures { result ≡ hop_offset infos index }
     {
         StdPathMetaLayout::SIZE_BYTES
-            + InfoFieldLayout::SIZE_BYTES * (infos as usize)
-            + HopFieldLayout::SIZE_BYTES * (index as usize)
+            + InfoFieldLayout::SIZE_BYTES * usize::from(infos)
+            + HopFieldLayout::SIZE_BYTES * usize::from(index)
     }
 }

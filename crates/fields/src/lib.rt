@@ -16,6 +16,8 @@ ghost use Rattle.fields.specs.Fields.{by_direction, travel_ingress_alert, travel
 
 use layout::{HopFieldLayout, InfoFieldLayout};
 
+// Each of the four readers of a flag is one line: a function for all would say no more than `&`.
+
 // ---- an info field
 
 #[tactic(auto, unfolding(crate::specs::Fields::cons_dir))]
@@ -88,10 +90,10 @@ pub fn cons_egress(hop: &[u8]) -> u16
 pub fn mac(hop: &[u8]) -> [u8; HopFieldLayout::MAC_SIZE_BYTES]
     ensures { result ≡ mac_field hop.now }
 {
-    std::array::from_fn(|i| octets::byte_at(hop, (HopFieldLayout::MAC as usize) + i))
+    std::array::from_fn(|i| octets::byte_at(hop, usize::from(HopFieldLayout::MAC) + i))
 }
 
-// ---- a hop field in travel direction
+// ---- a hop field in travel direction. The hop field and its info field are two parts of the path, handed on as 01 has it
 
 // The first of two with C set, else the second.
 fn by_direction<T: Copy>(info: &[u8], along: T, against: T) -> T
@@ -141,7 +143,7 @@ pub fn egress_scmp_alert(hop: &[u8], info: &[u8]) -> bool
 pub fn expiry(start: u32, units: u8) -> u32
     ensures { result ≡ expiry start units }
 {
-    start.saturating_add(((units as u32) + 1) * 675 / 2)
+    start.saturating_add((u32::from(units) + 1) * 675 / 2)
 }
 
 pub fn expiry_timestamp(hop: &[u8], info: &[u8]) -> u32

@@ -15,6 +15,7 @@ use cmac::KeySchedule;
 
 pub type ForwardingKey = [u8; 16];
 
+// Here and below the parameters are the Rust's, one by one and in its order.
 fn mac_input_data(
     mac_chain_beta: u16,
     timestamp: u32,

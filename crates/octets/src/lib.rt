@@ -19,7 +19,8 @@ pub fn u8_at(bytes: &[u8], at: u8) -> u8
     byte_at(bytes, usize::from(at))
 }
 
-// Here and in `u32_at` one comparison serves all bytes of a number that does not run past the end.
+// Here and in `u32_at` one comparison serves all bytes of a number that does not run past the end. They are two functions: with the
+// length as a const parameter, what `from_fn` gives stayed open.
 pub fn u16_at(bytes: &[u8], at: u8) -> u16
     ensures { result ≡ be16_at bytes.now at }
 {

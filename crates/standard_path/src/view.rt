@@ -12,7 +12,7 @@ ghost use Rattle.standard_path.specs.Header.{segment_among, segment_index};
 
 use fields::layout::{HopFieldLayout, InfoFieldLayout, StdPathMetaLayout};
 
-// ---- the meta word
+// ---- the meta word. Its bit fields are read by division: the layout's constants say how many values a field has
 
 pub fn curr_info_field_idx(path: &[u8]) -> u8
     ensures { result ≡ curr_inf path.now }
@@ -74,7 +74,7 @@ pub fn set_curr_info_field(path: &mut [u8], index: u8)
     let kept = curr_hop_field_idx(path);
     octets::put_byte(
         path,
-        StdPathMetaLayout::CURR_INFO_FIELD as usize,
+        usize::from(StdPathMetaLayout::CURR_INFO_FIELD),
         index % StdPathMetaLayout::CURR_INFO_FIELD_VALUES * StdPathMetaLayout::CURR_HOP_FIELD_VALUES
             + kept,
     );
@@ -88,7 +88,7 @@ pub fn set_curr_hop_field(path: &mut [u8], index: u8)
     let kept = curr_info_field_idx(path);
     octets::put_byte(
         path,
-        StdPathMetaLayout::CURR_HOP_FIELD as usize,
+        usize::from(StdPathMetaLayout::CURR_HOP_FIELD),
         kept * StdPathMetaLayout::CURR_HOP_FIELD_VALUES
             + index % StdPathMetaLayout::CURR_HOP_FIELD_VALUES,
     );
@@ -159,6 +159,7 @@ pub enum HeaderError {
     TooManyHops,
 }
 
+// The number is one view of an error.
 pub fn header_number(error: HeaderError) -> u8
     ensures { result ≡ header_number error }
 {

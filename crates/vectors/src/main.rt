@@ -140,7 +140,7 @@ fn put_beta_step(rt: &impl Print, hop_mac: [u8; 6]) -> io::Result<()> {
     print!(rt; "SegID 1234 after MAC ")?;
     put_hex(rt, &hop_mac)?;
     let next = hop_mac::mac_beta_step(0x1234, hop_mac);
-    put(rt, "", &[(next / 0x100) as u8, (next % 0x100) as u8])
+    put(rt, "", &next.to_be_bytes())
 }
 
 fn put_beta_steps(rt: &impl Print) -> io::Result<()> {

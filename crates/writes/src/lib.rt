@@ -11,7 +11,7 @@ ghost use Rattle.std.specs.Prelude.{◌≡◌, not};
 ghost use Rattle.fields.specs.Fields.{by_direction};
 ghost use Rattle.writes.specs.Writes.{set_seg_id, without_egress, without_ingress, alert_cleared_at};
 
-use fields::layout::InfoFieldLayout;
+use fields::layout::{HopFieldLayout, InfoFieldLayout};
 
 // The SegID of the info field with this index.
 #[tactic(auto, unfolding(crate::specs::Writes::set_seg_id))]
@@ -19,7 +19,7 @@ pub fn set_segment_id(path: &mut [u8], index: u8, value: u16)
     ensures { path.new ≡ set_seg_id path.old index value }
 {
     let at = InfoFieldLayout::offset(index);
-    let high = InfoFieldLayout::SEGMENT_ID as usize;
+    let high = usize::from(InfoFieldLayout::SEGMENT_ID);
     let [first, second] = value.to_be_bytes();
     octets::put_byte(path, at + high, first);
     octets::put_byte(path, at + (high + 1), second);
@@ -29,7 +29,11 @@ pub fn set_segment_id(path: &mut [u8], index: u8, value: u16)
 fn without_alert(flags: u8, ingress: bool) -> u8
     ensures { result ≡ by_direction ingress (without_ingress flags) (without_egress flags) }
 {
-    if ingress { flags & !2 } else { flags & !1 }
+    if ingress {
+        flags & !HopFieldLayout::CONS_INGRESS_ROUTER_ALERT
+    } else {
+        flags & !HopFieldLayout::CONS_EGRESS_ROUTER_ALERT
+    }
 }
 
 // The travel-ingress alert of the hop field that starts at a place, and its travel-egress alert.
