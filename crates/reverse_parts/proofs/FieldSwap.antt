@@ -1,29 +1,70 @@
 -- Fields brought into the opposite order as the code does it: two fields exchanged, from both ends to the middle.
 -- Assumes nothing.
-use mathlib.Core.Path.{◌≡◌, sym, ap, ap₂, ◌∙◌}
-use mathlib.Core.List.{List, ◌++◌, append_assoc}
+use mathlib.Core.Path.{◌≡◌, refl, sym, ap, ap₂, ◌∙◌}
+use mathlib.Core.List.{List, [], ◌∷◌, ◌++◌, append_assoc}
 use Prim.Native.Nat.{ℕ, zero, suc, ◌+◌, ◌-◌, ◌*◌, ◌/◌, ◌≤◌, ◌<◌}
 use native.Mathlib.Nat.{mul-add, mul-zero, mul-one, mul-suc, add-zero}
 use native.Mathlib.Numerals.{add-one}
 use native.Mathlib.Omega.{arith}
-use lib.ListN.{length, take, drop, length-append, length-drop, take-append-drop}
-use lib.Seq.{take_at, drop_at, take_all, drop-drop, length-take-le}
+use lib.ListN.{length, get_or, set, take, drop, length-append, length-drop, take-append-drop}
+use lib.Seq.{take_at, drop_at, get_or_at, set_at, take_all, drop-drop, length-take-le}
 use Rattle.reverse_parts.specs.Parts.{last_first, reverse_fields}
 use Rattle.reverse_parts.specs.Inner.{swap_fields}
 use Rattle.reverse_parts.proofs.FieldOrder.{last_first_first, last_first_last, last_first_front}
 
 -- ---- two fields exchanged
 
-swap_apart : (a x m y z : List ℕ) {size low high : ℕ} → length a ≡ low → length x ≡ size → low + (size + length m) ≡ high → length y ≡ size
-    → swap_fields size low high (a ++ (x ++ (m ++ (y ++ z)))) ≡ a ++ (y ++ (m ++ (x ++ z)))
+-- the first bytes of two fields
+swap_heads : (a m z : List ℕ) (b d : ℕ) {low high : ℕ} → length a ≡ low → length a + suc (length m) ≡ high
+    → (let path = a ++ (b ∷ (m ++ (d ∷ z))) in set (set path low (get_or path high 0)) high (get_or path low 0)) ≡ a ++ (d ∷ (m ++ (b ∷ z)))
+swap_heads a m z b d {low} {high} p q =
+    let far : (u : ℕ) → length (a ++ (u ∷ m)) ≡ high = λ u. length-append a (u ∷ m) ∙ q in
+    let last : get_or (a ++ (b ∷ (m ++ (d ∷ z)))) high 0 ≡ d =
+    rw (← append_assoc a (b ∷ m) (d ∷ z)) (get_or_at (a ++ (b ∷ m)) d z 0 high (far b)) in
+    rw (last, get_or_at a b (m ++ (d ∷ z)) 0 low p, set_at a b (m ++ (d ∷ z)) d low p)
+    (rw (← append_assoc a (d ∷ m) (d ∷ z), set_at (a ++ (d ∷ m)) d z b high (far d), append_assoc))
+
+swap_apart : (a x m y z : List ℕ) {low high : ℕ} → length a ≡ low → length a + (length x + length m) ≡ high → length x ≡ length y
+    → swap_fields (length x) low high (a ++ (x ++ (m ++ (y ++ z)))) ≡ a ++ (y ++ (m ++ (x ++ z)))
 unfolding swap_fields
-swap_apart a x m y z {size} {low} {high} p q e r =
-    let front = a ++ (x ++ m) in
-    let whole : a ++ (x ++ (m ++ (y ++ z))) ≡ front ++ (y ++ z) = simp append_assoc in
-    let front_size : length front ≡ high = simp length-append (omega arith) in
-    rw (whole, take_at front (y ++ z) high front_size, drop_at front (y ++ z) high front_size)
-    (rw (take_at a (x ++ m) low p, drop_at a (x ++ m) low p, take_at x m size q, drop_at x m size q, take_at y z size r, drop_at y z size r)
-    (simp append_assoc))
+swap_apart a [] m [] z p q e = refl
+swap_apart a [] m (d ∷ y) z p q e = absurd (omega arith)
+swap_apart a (b ∷ x) m [] z p q e = absurd (omega arith)
+swap_apart a (b ∷ x) m (d ∷ y) z {low} {high} p q e =
+    let heads = swap_heads a (x ++ m) (y ++ z) b d {high = high} p (rw (length-append x m) (omega arith)) in
+    let rest =
+    swap_apart (a ++ (d ∷ [])) x (m ++ (b ∷ [])) y z {low = suc low} {high = suc high} (rw (length-append a (d ∷ [])) (omega arith))
+    (simp length-append (omega arith))
+    (omega arith) in
+    ap (swap_fields (length x) (suc low) (suc high)) (simp append_assoc at heads) ∙ simp append_assoc at rest
+
+-- as the code exchanges them, where both are there and lie apart: the parts of the path put together again
+pub swap_by_parts : (size low high : ℕ) (path : List ℕ) → low + size ≤ high → high + size ≤ length path
+    → (let front = take high path in
+    let back = drop high path in
+    (take low front ++ (take size back ++ drop size (drop low front))) ++ (take size (drop low front) ++ drop size back))
+    ≡ swap_fields size low high path
+swap_by_parts size low high path apart within =
+    let front = take high path in
+    let back = drop high path in
+    let a = take low front in
+    let x = take size (drop low front) in
+    let m = drop size (drop low front) in
+    let y = take size back in
+    let z = drop size back in
+    let whole : a ++ (x ++ (m ++ (y ++ z))) ≡ path =
+    sym (append_assoc a x _) ∙ sym (append_assoc (a ++ x) m _)
+    ∙ ap₂ ◌++◌ (append_assoc a x m ∙ ap (λ (l : List ℕ). a ++ l) (take-append-drop size (drop low front)) ∙ take-append-drop low front) (take-append-drop size back)
+    ∙ take-append-drop high path in
+    let front_size : length front ≡ high = length-take-le high path (omega arith) in
+    let a_size : length a ≡ low = length-take-le low front (omega arith) in
+    let low_left : length (drop low front) ≡ high - low = length-drop low front ∙ omega arith in
+    let x_size : length x ≡ size = length-take-le size (drop low front) (omega arith) in
+    let m_size : length m ≡ high - low - size = length-drop size (drop low front) ∙ omega arith in
+    let y_size : length y ≡ size = length-take-le size back (rw (length-drop high path) (omega arith)) in
+    let swapped = swap_apart a x m y z {high = high} a_size (omega arith) (omega arith) in
+    append_assoc a (y ++ m) (x ++ z) ∙ ap (λ (l : List ℕ). a ++ l) (append_assoc y m (x ++ z))
+    ∙ sym swapped ∙ ap₂ (λ (s : ℕ) (l : List ℕ). swap_fields s low high l) x_size whole
 
 -- ---- n fields
 
@@ -76,7 +117,8 @@ module _ (size : ℕ) where
       reverse_fields (low + size) size n (swap_fields size low (low + size + size * n) path) ≡ reverse_fields low size (suc (suc n)) path)
   reverse_split n a x m y z {low} p q r t =
       let swapped : swap_fields size low (low + size + size * n) (a ++ (x ++ (m ++ (y ++ z)))) ≡ (a ++ y) ++ (m ++ (x ++ z)) =
-      swap_apart a x m y z p q (omega arith) t ∙ sym (append_assoc a y _) in
+      ap (λ (s : ℕ). swap_fields s low (low + size + size * n) (a ++ (x ++ (m ++ (y ++ z))))) (sym q)
+      ∙ swap_apart a x m y z p (omega arith) (omega arith) ∙ sym (append_assoc a y _) in
       let inner = reverse_at n (a ++ y) m (x ++ z) {at = low + size} (length-append a y ∙ ap₂ ◌+◌ p t) r in
       let outer =
       reverse_at (suc (suc n)) a (x ++ (m ++ y)) z p (simp length-append (omega (arith, mul-suc size n, mul-suc size (suc n))))

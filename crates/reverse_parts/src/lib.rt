@@ -24,19 +24,19 @@ fn set_lengths(path: &mut [u8], seg0: u8, seg1: u8, seg2: u8)
         / StdPathMetaLayout::SEG0_LEN_HIGH_VALUES;
     octets::put_byte(
         path,
-        StdPathMetaLayout::SEG0_LEN as usize,
+        usize::from(StdPathMetaLayout::SEG0_LEN),
         reserved * StdPathMetaLayout::SEG0_LEN_HIGH_VALUES
             + seg0 / StdPathMetaLayout::SEG0_LEN_LOW_VALUES,
     );
     octets::put_byte(
         path,
-        StdPathMetaLayout::SEG1_LEN as usize,
+        usize::from(StdPathMetaLayout::SEG1_LEN),
         seg0 % StdPathMetaLayout::SEG0_LEN_LOW_VALUES * StdPathMetaLayout::SEG1_LEN_HIGH_VALUES
             + seg1 / StdPathMetaLayout::SEG1_LEN_LOW_VALUES,
     );
     octets::put_byte(
         path,
-        StdPathMetaLayout::SEG2_LEN as usize,
+        usize::from(StdPathMetaLayout::SEG2_LEN),
         seg1 % StdPathMetaLayout::SEG1_LEN_LOW_VALUES * StdPathMetaLayout::SEG2_LEN_VALUES + seg2,
     );
 }
@@ -61,20 +61,20 @@ pub fn swap_lengths(path: &mut [u8])
 
 // ---- the fields
 
-// Turns C over in each info field.
+// Turns C over in each info field; by index, since `as_chunks_mut` would say nothing of what it leaves in the path.
 #[tactic(auto, using(crate::proofs::Flags::toggled_by_mask), unfolding(crate::specs::Parts::toggle_cons_dirs, crate::specs::Parts::toggle_cons_dir))]
 fn toggle_cons_dirs(path: &mut [u8], infos: u8)
     ensures { path.new ≡ toggle_cons_dirs infos path.old }
 {
     for index in 0..infos {
-        let at = InfoFieldLayout::offset(index) + InfoFieldLayout::FLAGS as usize;
+        let at = InfoFieldLayout::offset(index) + usize::from(InfoFieldLayout::FLAGS);
         let flags = octets::byte_at(path, at);
         octets::put_byte(path, at, flags ^ InfoFieldLayout::CONS_DIR);
     }
 }
 
 // Exchanges two fields that lie apart.
-#[tactic(auto, unfolding(crate::specs::Inner::swap_fields))]
+#[tactic(auto, using(crate::proofs::FieldSwap::swap_by_parts))]
 fn swap_fields(path: &mut [u8], low: usize, high: usize, size: usize)
     requires { (low + size ≤ high) × (high + size ≤ length path.old) }
     ensures { path.new ≡ swap_fields size low high path.old }
@@ -83,14 +83,14 @@ fn swap_fields(path: &mut [u8], low: usize, high: usize, size: usize)
     front[low..low + size].swap_with_slice(&mut back[..size]);
 }
 
-// Reverses the order of `count` fields, from both ends; `as_chunks_mut` would say nothing of what it leaves in the path.
+// Reverses the order of `count` fields, from both ends; by index for the same reason.
 fn reverse_fields(path: &mut [u8], at: usize, size: usize, count: u8)
     requires { at + size * count ≤ length path.old }
     ensures { path.new ≡ reverse_fields at size count path.old }
 {
     for index in 0..count / 2 {
-        let low = at + size * (index as usize);
-        let high = at + size * ((count - 1 - index) as usize);
+        let low = at + size * usize::from(index);
+        let high = at + size * usize::from(count - 1 - index);
         swap_fields(path, low, high, size);
     }
 }

@@ -14,7 +14,8 @@ loop-index-preserved c =
     let within = fields_within a.size a.at a.count head.index c.loop-index-test.true in
     let left : a.count - 2 * (head.index + 1) ≡ a.count - 2 * head.index - 2 = omega arith in
     let done = reverse_more a.size (a.count - 2 * head.index) (a.at + a.size * head.index) _ head.path two opposite (omega (arith, within)) in
-    rw (next_field a.size a.at head.index, left) (ap (reverse_fields _ _ _) c.swap_fields.ensures ∙ done ∙ head.invariant)
+    let swapped = rw (c.from.ensures, c.from-in-loop-index.ensures) at c.swap_fields.ensures in
+    rw (next_field a.size a.at head.index, left) (ap (reverse_fields _ _ _) swapped ∙ done ∙ head.invariant)
 
 pub returns : goal.returns
 returns c =
