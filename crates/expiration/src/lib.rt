@@ -20,10 +20,11 @@ fn segment_expiry(path: &[u8], segment: Segment) -> u32
 {
     let start = fields::timestamp(view::info_field(path, segment.info_idx));
     let hops = segment.hop_fields(path);
+    // By index: a hop field that the path does not have counts with ExpTime 0, and chunks would leave it out.
     let exp_time = |index: u8| {
         octets::byte_at(
             hops,
-            HopFieldLayout::SIZE_BYTES * (index as usize) + (HopFieldLayout::EXP_TIME as usize),
+            HopFieldLayout::SIZE_BYTES * usize::from(index) + usize::from(HopFieldLayout::EXP_TIME),
         )
     };
     let least = (0..segment.hop_count).map(exp_time).min();
@@ -49,7 +50,7 @@ pub fn expiration(path: &[u8]) -> Result<u32, HeaderError>
     Ok(path_expiry(path))
 }
 
-// 01's number of a refusal, 0 for a time.
+// 01's number of a refusal; 0, which no refusal has, for a time, since whoever writes it down writes a number in any case.
 pub fn expiration_number(answer: Result<u32, HeaderError>) -> u8
     ensures { result ≡ expiration_number answer }
 {

@@ -9,7 +9,7 @@
 
 ghost use Rattle.std.specs.Prelude.{◌≡◌, ◌+◌, ◌<◌, eqb, IfSome, ⊤};
 ghost use Rattle.std.specs.Iterator.{YieldsFirst, item_count, MakesProgress};
-ghost use Rattle.segments.specs.Segments.{segment_count, seg_len, hop_fields, next_segment, started, step_of, advanced, rest};
+ghost use Rattle.segments.specs.Segments.{segment_count, seg_len, hop_fields, next_segment, behind, place_after, started, step_of, advanced, rest};
 
 use fields::layout::HopFieldLayout;
 use standard_path::view;
@@ -47,7 +47,7 @@ fn seg_len(path: &[u8], index: u8) -> u8
         view::seg1_len(path),
         view::seg2_len(path),
     ];
-    lengths.get(index as usize).copied().unwrap_or(0)
+    lengths.get(usize::from(index)).copied().unwrap_or(0)
 }
 
 // ---- a step along the segments
@@ -70,8 +70,19 @@ impl Segment {
         view::part(
             path,
             at,
-            HopFieldLayout::SIZE_BYTES * (self.hop_count as usize),
+            HopFieldLayout::SIZE_BYTES * usize::from(self.hop_count),
         )
+    }
+
+    // The place behind it.
+    fn behind(self) -> SegmentPlace
+        requires { (self.info_idx < 3) × (self.first_hop + self.hop_count < 256) }
+        ensures { result ≡ behind self }
+    {
+        SegmentPlace {
+            seg_idx: self.info_idx + 1,
+            hop_idx: self.first_hop + self.hop_count,
+        }
     }
 }
 
@@ -94,7 +105,7 @@ pub fn next_segment(path: &[u8], place: SegmentPlace) -> Option<Segment>
         return None;
     }
     let count = seg_len(path, segment);
-    if (view::hop_field_count(path) as u16) < (first as u16) + (count as u16) {
+    if u16::from(view::hop_field_count(path)) < u16::from(first) + u16::from(count) {
         return None;
     }
     Some(Segment {
@@ -102,6 +113,13 @@ pub fn next_segment(path: &[u8], place: SegmentPlace) -> Option<Segment>
         first_hop: first,
         hop_count: count,
     })
+}
+
+// The place behind the segment at a place; where there is none, the place itself. `next`, which has the segment, asks it alone.
+pub fn next_place(path: &[u8], place: SegmentPlace) -> SegmentPlace
+    ensures { result ≡ place_after place (next_segment path.now place) }
+{
+    next_segment(path, place).map_or(place, |segment| segment.behind())
 }
 
 // ---- the iterator
@@ -141,10 +159,7 @@ impl<'a> Iterator for SegmentIterator<'a> {
         ensures goes { MakesProgress (λ _. ⊤) (item_count rest) self.old result self.new }
     {
         let segment = next_segment(self.path, self.place)?;
-        self.place = SegmentPlace {
-            seg_idx: segment.info_idx + 1,
-            hop_idx: segment.first_hop + segment.hop_count,
-        };
+        self.place = segment.behind();
         Some(segment)
     }
 }
