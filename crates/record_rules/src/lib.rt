@@ -16,9 +16,9 @@ pub fn is_size_sound(itinerary: Itinerary<'_>) -> bool
     ensures { result ≡ size_sound (layout_of itinerary.entry.form) itinerary.entry.bytes.now }
 {
     let count = itinerary.record_count();
-    (itinerary.bytes.len() % itinerary.form.record_bytes() == 0)
+    (itinerary.bytes.len() % itinerary.form.layout().record_bytes == 0)
         & (1 <= count)
-        & (count <= itinerary.form.max_records())
+        & (count <= itinerary.form.layout().max_records)
 }
 
 pub fn is_index_sound(itinerary: Itinerary<'_>, index: u32) -> bool
@@ -35,13 +35,15 @@ pub fn is_next_sound(itinerary: Itinerary<'_>, index: u32) -> bool
     (next == 0) | ((index < next) & is_index_sound(itinerary, next))
 }
 
-// ---- the bytes that are named zero: a function for each kind of record, since ranges handed over as a list would be picked in as many places
+// ---- the bytes that are named zero
+//
+// A function for each kind of record. One function that takes ranges would need others to pick them: three again, each with a match on the form.
 
 fn are_zero(itinerary: Itinerary<'_>, index: u32, field: u8, count: u8) -> bool
     ensures { result ≡ are_zero (layout_of itinerary.entry.form) itinerary.entry.bytes.now index field count }
 {
     let at = itinerary.form.offset(index, field);
-    (0..count).all(|i| octets::byte_at(itinerary.bytes, at + (i as usize)) == 0)
+    (0..count).all(|i| octets::byte_at(itinerary.bytes, at + usize::from(i)) == 0)
 }
 
 #[tactic(auto, unfolding(crate::specs::Rules::zeros_sound, records::specs::Records::every))]

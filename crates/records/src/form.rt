@@ -9,74 +9,49 @@ pub enum Form {
     Narrow,
 }
 
+// What differs by form: sizes, and where fields start in a record.
+#[derive(Clone, Copy)]
+pub struct FormLayout {
+    pub record_bytes: usize,
+    pub max_records: usize,
+    // a station's fields
+    pub arrival: u8,
+    pub first_interface: u8,
+    pub key: u8,
+    // an interface record's fields
+    pub number: u8,
+    pub state: u8,
+}
+
 impl Form {
     // The bounds keep an offset within 64 bits, in every form.
-    pub fn record_bytes(self) -> usize
-        ensures { (result ≡ (layout_of self).record_bytes) × ((0 < result) × (result < 256)) }
+    pub fn layout(self) -> FormLayout
+        ensures record_bytes { result.record_bytes ≡ (layout_of self).record_bytes }
+        ensures bounds { (0 < result.record_bytes) × (result.record_bytes < 256) }
+        ensures max_records { result.max_records ≡ (layout_of self).max_records }
+        ensures arrival { result.arrival ≡ (layout_of self).arrival }
+        ensures first_interface { result.first_interface ≡ (layout_of self).first_interface }
+        ensures key { result.key ≡ (layout_of self).key }
+        ensures number { result.number ≡ (layout_of self).number }
+        ensures state { result.state ≡ (layout_of self).state }
     {
         match self {
-            Form::Narrow => RecordLayout::SIZE_BYTES,
+            Form::Narrow => FormLayout {
+                record_bytes: RecordLayout::SIZE_BYTES,
+                max_records: RecordLayout::MAX_RECORDS,
+                arrival: StationLayout::ARRIVAL,
+                first_interface: StationLayout::FIRST_INTERFACE,
+                key: StationLayout::KEY,
+                number: InterfaceRecordLayout::NUMBER,
+                state: InterfaceRecordLayout::STATE,
+            },
         }
     }
-
-    pub fn max_records(self) -> usize
-        ensures { result ≡ (layout_of self).max_records }
-    {
-        match self {
-            Form::Narrow => RecordLayout::MAX_RECORDS,
-        }
-    }
-
-    // ---- a station's fields
-
-    pub fn arrival(self) -> u8
-        ensures { result ≡ (layout_of self).arrival }
-    {
-        match self {
-            Form::Narrow => StationLayout::ARRIVAL,
-        }
-    }
-
-    pub fn first_interface(self) -> u8
-        ensures { result ≡ (layout_of self).first_interface }
-    {
-        match self {
-            Form::Narrow => StationLayout::FIRST_INTERFACE,
-        }
-    }
-
-    pub fn key(self) -> u8
-        ensures { result ≡ (layout_of self).key }
-    {
-        match self {
-            Form::Narrow => StationLayout::KEY,
-        }
-    }
-
-    // ---- an interface record's fields
-
-    pub fn number(self) -> u8
-        ensures { result ≡ (layout_of self).number }
-    {
-        match self {
-            Form::Narrow => InterfaceRecordLayout::NUMBER,
-        }
-    }
-
-    pub fn state(self) -> u8
-        ensures { result ≡ (layout_of self).state }
-    {
-        match self {
-            Form::Narrow => InterfaceRecordLayout::STATE,
-        }
-    }
-
-    // ---- a field's place
 
     // Where a field of the record with this index stands.
     pub fn offset(self, index: u32, field: u8) -> usize
         ensures { (result ≡ offset (layout_of self) index field) × (result < 1099511627776) }
     {
-        self.record_bytes() * (index as usize) + (field as usize)
+        self.layout().record_bytes * (index as usize) + usize::from(field)
     }
 }

@@ -28,7 +28,7 @@ impl<'a> Itinerary<'a> {
     pub fn record_count(self) -> usize
         ensures { result ≡ record_count (layout_of self.entry.form) self.entry.bytes.now }
     {
-        self.bytes.len() / self.form.record_bytes()
+        self.bytes.len() / self.form.layout().record_bytes
     }
 
     fn u16_field(self, index: u32, field: u8) -> u16
@@ -47,7 +47,7 @@ impl<'a> Itinerary<'a> {
         ensures { result ≡ (layout_of self.entry.form).index_at self.entry.bytes.now (offset (layout_of self.entry.form) index field) }
     {
         match self.form {
-            Form::Narrow => self.u16_field(index, field) as u32,
+            Form::Narrow => u32::from(self.u16_field(index, field)),
         }
     }
 
@@ -67,7 +67,7 @@ impl<'a> Itinerary<'a> {
     pub fn arrival(self, station: u32) -> u16
         ensures { result ≡ arrival_of (layout_of self.entry.form) self.entry.bytes.now station }
     {
-        self.u16_field(station, self.form.arrival())
+        self.u16_field(station, self.form.layout().arrival)
     }
 
     // Where the station's table starts, 0 for an empty one.
@@ -75,13 +75,13 @@ impl<'a> Itinerary<'a> {
     pub fn first_interface(self, station: u32) -> u32
         ensures { result ≡ first_interface_of (layout_of self.entry.form) self.entry.bytes.now station }
     {
-        self.index_field(station, self.form.first_interface())
+        self.index_field(station, self.form.layout().first_interface)
     }
 
     pub fn key(self, station: u32) -> [u8; 16]
         ensures { result ≡ key_of (layout_of self.entry.form) self.entry.bytes.now station }
     {
-        let at = self.form.offset(station, self.form.key());
+        let at = self.form.offset(station, self.form.layout().key);
         std::array::from_fn(|i| octets::byte_at(self.bytes, at + i))
     }
 
@@ -91,14 +91,17 @@ impl<'a> Itinerary<'a> {
     pub fn interface_number(self, index: u32) -> u16
         ensures { result ≡ interface_number_of (layout_of self.entry.form) self.entry.bytes.now index }
     {
-        self.u16_field(index, self.form.number())
+        self.u16_field(index, self.form.layout().number)
     }
 
     #[tactic(auto, unfolding(crate::specs::Records::interface_state_of))]
     pub fn interface_state(self, index: u32) -> u8
         ensures { result ≡ interface_state_of (layout_of self.entry.form) self.entry.bytes.now index }
     {
-        octets::byte_at(self.bytes, self.form.offset(index, self.form.state()))
+        octets::byte_at(
+            self.bytes,
+            self.form.offset(index, self.form.layout().state),
+        )
     }
 
     // ---- the records of a chain, from one on

@@ -14,7 +14,7 @@ use records::Itinerary;
 // One record more than a sound table has.
 pub const TABLE_LIMIT: usize = 257;
 
-// The record of the station with this place in the chain, counted from 0; 0 where there is none.
+// The record of the station with this place in the chain, counted from 0; 0 where there is none, which is record 0: the callers read on, and fields are read on all inputs.
 pub fn station_record(itinerary: Itinerary<'_>, place: u8) -> u32
     ensures { result ≡ get_or (station_records (layout_of itinerary.entry.form) itinerary.entry.bytes.now) place 0 }
 {
@@ -41,7 +41,7 @@ pub fn is_table_sound(itinerary: Itinerary<'_>, station: u32) -> bool
         .table_records_within(station, TABLE_LIMIT)
         .enumerate()
     {
-        let number = itinerary.interface_number(index) as u32;
+        let number = u32::from(itinerary.interface_number(index));
         if entries == MAX_ENTRIES || number < lowest {
             return false;
         }

@@ -35,21 +35,21 @@ returns-then-entries-eq-MAX_ENTRIES c =
     let turn = c.in-Some.ensures.steps in
     elim c.then-entries-eq-MAX_ENTRIES.branch [
       | then-entries-eq-MAX_ENTRIES-via-then-entries-eq-MAX_ENTRIES w ↦ entered_many entered turn.0 (sym turn.1 ∙ w.if-entries-eq-MAX_ENTRIES.true)
-      | then-entries-eq-MAX_ENTRIES-via-else-entries-eq-MAX_ENTRIES+then-number-lowest w ↦ entered_low entered turn.0 (rw (← c.interface_number-number.ensures) w.if-number-lowest.true)
+      | then-entries-eq-MAX_ENTRIES-via-else-entries-eq-MAX_ENTRIES+then-number-lowest w ↦ entered_low entered turn.0 (rw (← c.interface_number.ensures, ← c.from-number.ensures) w.if-number-lowest.true)
     ]
 
 pub returns-then-interface_state-ge8 : goal.returns-then-interface_state-ge8
 unfolding station_with
 returns-then-interface_state-ge8 c =
-    entered_state c.loop-entries.invariant c.in-Some.ensures.steps.0 (rw (← c.interface_number-number.ensures) c.if-number-lowest.false)
+    entered_state c.loop-entries.invariant c.in-Some.ensures.steps.0 (rw (← c.interface_number.ensures, ← c.from-number.ensures) c.if-number-lowest.false)
     (rw (← c.interface_state.ensures) c.if-interface_state-ge8.true)
 
 pub loop-entries-preserved : goal.loop-entries-preserved
 loop-entries-preserved c =
     let turn = c.in-Some.ensures.steps in
-    entered_on c.loop-entries.invariant turn.0 (rw (← c.interface_number-number.ensures) c.if-number-lowest.false)
+    entered_on c.loop-entries.invariant turn.0 (rw (← c.interface_number.ensures, ← c.from-number.ensures) c.if-number-lowest.false)
     (λ e. c.if-entries-eq-MAX_ENTRIES.false (turn.1 ∙ e)) (rw (← c.interface_state.ensures) (omega (arith, c.if-interface_state-ge8.false)))
-    c.interface_number-number.ensures turn.2
+    (c.from-number.ensures ∙ c.interface_number.ensures) turn.2
 
 pub returns : goal.returns
 unfolding station_with

@@ -33,4 +33,4 @@ pub returns : goal.returns
 unfolding key_of bytes_of
 returns c =
     let byte : ℕ → ℕ = λ i. get_or c.args.self.bytes.now (c.offset-at.result + i) 0 in
-    rw (← c.key.ensures, ← c.offset-at.ensures.0) (tabulated _ byte _ (λ x y q k. search (rules, tests)) c.from_fn.result 16 c.from_fn.ensures.items)
+    rw (← c.layout.ensures.key, ← c.offset-at.ensures.0) (tabulated _ byte _ (λ x y q k. search (rules, tests)) c.from_fn.result 16 c.from_fn.ensures.items)
