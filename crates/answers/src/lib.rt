@@ -41,7 +41,7 @@ pub enum AdvanceError {
     MisplacedPeering,
 }
 
-// The MACs are numbers of 48 bits: an enum holds no array.
+// A MAC is a number of 48 bits, since the values of an answer are told as numbers.
 #[derive(Clone, Copy)]
 pub enum StandardRoutingError {
     UnsoundTable,

@@ -1,6 +1,6 @@
 // The number of an answer, and the values that it carries, for whoever has to write them down: 01's for a refusal.
 ghost use Rattle.std.specs.Prelude.{◌≡◌, take};
-ghost use Rattle.answers.specs.Answer.{advance_number, refusal_number, flag, values_of, advance_values, refusal_values};
+ghost use Rattle.answers.specs.Answer.{advance_number, refusal_number, values_of, advance_values, refusal_values};
 ghost use Rattle.answers.specs.Answer.{local_number, action_number, local_values, action_values};
 
 use crate::{AdvanceError, AsRoutingAction, LocalAsRoutingAction, StandardRoutingError};
@@ -60,12 +60,6 @@ impl Values {
             places: std::array::from_fn(|i| values.get(i).copied().unwrap_or(0)),
         }
     }
-}
-
-pub fn flag(is_set: bool) -> u64
-    ensures { result ≡ flag is_set }
-{
-    u64::from(is_set)
 }
 
 fn advance_values(why: AdvanceError) -> Values

@@ -149,7 +149,7 @@ fn index_reply(hop_idx: u8, answer: Option<SegmentIndex>) -> Reply
     match answer {
         Some(SegmentIndex { index, start, end }) => plain(
             112,
-            &[u64::from(index), number::flag(start), number::flag(end)],
+            &[u64::from(index), u64::from(start), u64::from(end)],
         ),
         None => plain(5, &[u64::from(hop_idx)]),
     }
