@@ -43,8 +43,8 @@ fn validate_next(interfaces: InterfaceTable<'_>, at: StandardValidator, path: &[
     at.validate_hop(hop_index + 1, next_hop, next_info)
 }
 
-// From question 12 on, where MACs are checked: one key schedule serves both hops. The edition and the path stay two parameters: each
-// half writes the path after its checks, and a struct that lends it would be made anew.
+// From question 12 on, where MACs are checked: one key schedule serves both hops. Why the edition and the path are two parameters is said
+// beside `Edition`.
 #[tactic(auto, unfolding(questions::specs::Questions::asks), using(validator::proofs::Schedule::hop_mac_law))]
 fn validate_checked(
     edition: Edition,

@@ -48,6 +48,7 @@ fn stepped_segment_id(hop: &[u8], info: &[u8]) -> u16
     mac_beta_step(fields::segment_id(info), fields::mac(hop))
 }
 
+// Here and below `at_ingress` is a flag: 01 has one rule for the beta step, told whether it works at ingress or at egress.
 fn is_stepped_direction(at_ingress: bool, cons_dir: bool) -> bool
     ensures { result ≡ cond at_ingress (not cons_dir) cons_dir }
 {

@@ -12,7 +12,7 @@ ghost use Rattle.questions.specs.Questions.{asks};
 ghost use Rattle.answers.specs.Questions.{first_no};
 ghost use Rattle.edition.specs.Edition.{peering_questions};
 ghost use Rattle.place.specs.Place.{before, next_hop, next_info, ingress_place, crosses, is_final, is_peering_hop};
-ghost use Rattle.place.specs.Inner.{stands, egress_place_by};
+ghost use Rattle.place.specs.Inner.{stands, info_questions, egress_place_by};
 
 use answers::{AdvanceError, StandardRoutingError, Validation};
 use edition::Edition;
@@ -82,6 +82,20 @@ fn placed(edition: Edition, path: &[u8], place: Place) -> Result<Place, Standard
     Ok(place)
 }
 
+// Question 7, and 8 for the current info field. Question 5 stays with each half: at ingress 6 comes between 5 and 7.
+#[tactic(auto, unfolding(questions::specs::Questions::asks))]
+fn check_info_index(expected: u8, actual: u8, infos: u8) -> Validation
+    ensures { result ≡ first_no (info_questions expected actual infos) }
+{
+    if expected != actual {
+        return Err(AdvanceError::InvalidSegmentIndex { expected, actual }.into());
+    }
+    if infos <= actual {
+        return Err(AdvanceError::InfoOutOfBounds(actual).into());
+    }
+    Ok(())
+}
+
 // Questions 5 to 8, and 28.
 #[tactic(auto, unfolding(questions::specs::Questions::asks, standard_path::specs::Header::segment_index, standard_path::specs::Header::segment_among, standard_path::specs::Header::hops))]
 pub fn locate_ingress(edition: Edition, path: &[u8]) -> Result<Place, StandardRoutingError>
@@ -96,18 +110,8 @@ pub fn locate_ingress(edition: Edition, path: &[u8]) -> Result<Place, StandardRo
     if !peers && start && end {
         return Err(AdvanceError::SingleHopSegment.into());
     }
-    let actual = view::curr_info_field_idx(path);
-    if index != actual {
-        return Err(AdvanceError::InvalidSegmentIndex {
-            expected: index,
-            actual,
-        }
-        .into());
-    }
     let infos = view::info_field_count(path);
-    if infos <= actual {
-        return Err(AdvanceError::InfoOutOfBounds(actual).into());
-    }
+    check_info_index(index, view::curr_info_field_idx(path), infos)?;
     let last = is_final(path);
     let change = !peer && end && !last;
     if change && infos <= index + 1 {
@@ -116,8 +120,8 @@ pub fn locate_ingress(edition: Edition, path: &[u8]) -> Result<Place, StandardRo
     placed(edition, path, Place { change, last })
 }
 
-// Questions 5, 7, 8, 28, 5 for the next hop, and 18. The caller asks what the edition makes of the path, for speed: this function then
-// lends its path to no other.
+// Questions 5, 7, 8, 28, 5 for the next hop, and 18. The caller asks what the edition makes of the path, so this function knows no
+// edition; whether that is faster by itself is not measured.
 #[tactic(auto, unfolding(questions::specs::Questions::asks, standard_path::specs::Header::segment_index, standard_path::specs::Header::segment_among, standard_path::specs::Header::hops))]
 pub fn locate_egress(path: &[u8], fits: bool, crossing: bool) -> Validation
     ensures { result ≡ first_no (egress_place_by path.now fits crossing) }
@@ -128,17 +132,7 @@ pub fn locate_egress(path: &[u8], fits: bool, crossing: bool) -> Validation
     let SegmentIndex { index, end, .. } = view::calculate_segment_index(path, hop).ok_or(
         AdvanceError::HopOutOfBounds(hop),
     )?;
-    let actual = view::curr_info_field_idx(path);
-    if index != actual {
-        return Err(AdvanceError::InvalidSegmentIndex {
-            expected: index,
-            actual,
-        }
-        .into());
-    }
-    if infos <= actual {
-        return Err(AdvanceError::InfoOutOfBounds(actual).into());
-    }
+    check_info_index(index, view::curr_info_field_idx(path), infos)?;
     if !fits {
         return Err(AdvanceError::MisplacedPeering.into());
     }

@@ -22,7 +22,7 @@ use interface_table::InterfaceTable;
 use standard_path::view;
 use validator::StandardValidator;
 
-// ---- the halves
+// ---- the halves. They and the whole step take the Rust's parameters, and the edition and the table before them
 
 pub fn standard_path_ingress(
     edition: Edition,
@@ -134,6 +134,7 @@ pub fn handle_standard_path(
         as_forwarding_key,
         ignore_macs,
     )?;
+    // A refusal has left by `?`, so what is no way on to egress is an action; `let .. else` takes the egress number out, as 01 has it.
     let IngressNextAction::ContinueEgress {
         egress_interface_id,
     } = next_action

@@ -16,7 +16,8 @@ use answers::{StandardRoutingError, Validation};
 use cmac::KeySchedule;
 use hop_mac::calculate_hop_mac_with;
 
-// Where a hop is checked: at ingress or at egress, on which interface, when, and whether its MAC is not asked for.
+// Where a hop is checked: at ingress or at egress, on which interface, when, and whether its MAC is not asked for. `ingress` is a flag: 01
+// has one set of checks, told whether it works at ingress or at egress.
 #[derive(Clone, Copy)]
 pub struct StandardValidator {
     pub ingress: bool,
