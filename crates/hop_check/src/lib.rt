@@ -13,6 +13,7 @@ use records::Itinerary;
 use station::lookup;
 use validator::{expected_mac, mac_number};
 
+// Here and below, hop field and info field are two parts of the path, handed on, as 01 has it.
 #[tactic(auto, unfolding(crate::specs::Hop::mac_fits))]
 fn mac_fits(table: &[u8; 1024], key: [u8; 16], info: &[u8], hop: &[u8], segment_id: u16) -> bool
     ensures { result ≡ mac_fits (key_mac_by table.now key) info.now hop.now segment_id }

@@ -17,7 +17,7 @@ use segment_check::journey::Journey;
 use standard_path::view;
 use station::{lookup, station_record};
 
-// From a hop to the next segment's first, at the station with this record.
+// From a hop to the next segment's first, at the station with this record. The fields are parts of the path, handed on, as 01 has it.
 #[tactic(auto, unfolding(crate::specs::Joint::change_fits))]
 fn change_fits(
     itinerary: Itinerary<'_>,

@@ -60,6 +60,7 @@ fn check(journey: Journey<'_>) -> Result<Verdict, JourneyError>
     }
 }
 
+// The five parameters are what 01 hands over; inside they go together, as a `Journey`.
 pub fn check_journey(
     edition: Edition,
     path: &[u8],

@@ -30,7 +30,7 @@ pub enum Verdict {
     NotPassed,
 }
 
-// 01's number of a refusal.
+// 01's number of a refusal: one view of the error, which has others.
 pub fn journey_number(error: JourneyError) -> u8
     ensures { result ≡ journey_number error }
 {

@@ -6,7 +6,7 @@ ghost use Rattle.records.specs.Layout.{layout_of};
 ghost use Rattle.records.specs.Records.{record_after};
 ghost use Rattle.segment_check.specs.Segment.{each_below, hop_of, peering_hop_of, chained_seg_id, segment_fits_from};
 
-use crate::hops::PathSegment;
+use crate::hops::{HopPlace, PathSegment};
 use crate::journey::Journey;
 use edition::Edition;
 use hop_check::hop_fits;
@@ -16,7 +16,7 @@ use standard_path::view;
 
 // ---- a segment
 
-// The station behind this one; behind the last there is none. A chain ends there, but a hop is asked of record 0.
+// The station behind this one. Behind the last it is 0, 01's own for no record: a chain ends there, but a hop is asked of record 0.
 #[tactic(auto, unfolding(records::specs::Records::record_after))]
 fn next_station(itinerary: Itinerary<'_>, station: u32) -> u32
     ensures { result ≡ record_after (layout_of itinerary.entry.form) itinerary.entry.bytes.now station 1 }
@@ -29,19 +29,19 @@ fn next_station(itinerary: Itinerary<'_>, station: u32) -> u32
 
 // The SegID that a hop is checked with, from that of the hop before it: that hop's MAC goes in, or, against construction, its own. So
 // the MACs that go in are those from the first on, or from the second.
-fn chained_segment_id(edition: Edition, segment: PathSegment<'_>, before: u16, hop: u8) -> u16
-    requires chained { before ≡ chained_seg_id (peering_hop_of edition segment.path.now segment.place)
+fn chained_segment_id(edition: Edition, segment: PathSegment<'_>, before: u16, hop: HopPlace) -> u16
+    requires { before ≡ chained_seg_id (peering_hop_of edition segment.path.now segment.place)
         (info_field segment.path.now segment.place) (hop_of segment.path.now segment.place) (hop - 1) }
-    requires short { hop < 64 }
     ensures { result ≡ chained_seg_id (peering_hop_of edition segment.entry.path.now segment.entry.place)
         (info_field segment.entry.path.now segment.entry.place) (hop_of segment.entry.path.now segment.entry.place) hop }
 {
     let cons_dir = fields::cons_dir(segment.info_field());
+    let hop = hop.number();
     if hop < 1 {
         return before;
     }
     let first = u8::from(!cons_dir);
-    let stepped = first + hop - 1;
+    let stepped = HopPlace::new(first + hop - 1);
     if segment.is_peering_hop(edition, stepped) {
         return before;
     }
@@ -66,15 +66,17 @@ fn segment_fits(journey: Journey<'_>, table: &[u8; 1024], first: u32, place: u8)
     let count = segment.hop_count();
     let mut station = first;
     let mut segment_id = fields::segment_id(info);
+    // A count: SegID and station both go on from one hop to the next.
     for hop in 0..count {
-        segment_id = chained_segment_id(journey.edition, segment, segment_id, hop);
+        let hop_place = HopPlace::new(hop);
+        segment_id = chained_segment_id(journey.edition, segment, segment_id, hop_place);
         if !hop_fits(
             table,
             journey.itinerary,
             station,
             journey.latest,
             info,
-            segment.hop_field(hop),
+            segment.hop_field(hop_place),
             segment_id,
             hop == 0,
             count <= hop + 1,

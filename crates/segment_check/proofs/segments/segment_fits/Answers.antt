@@ -13,21 +13,21 @@ loop-hop-init c = walked_none _ _ _ _ _ _ _ (c.segment_id-segment_id.ensures ∙
 pub returns-then-not-hop_fits : goal.returns-then-not-hop_fits
 returns-then-not-hop_fits c =
     let walked = c.loop-hop.invariant in
-    let answered = hop_answered walked c.requires c.chained_segment_id-segment_id.ensures c.info_field-info.ensures c.hop_field.ensures
-    c.hop_count-count.ensures.0 c.hop_fits.ensures in
+    let answered = hop_answered walked c.requires (rw c.new-hop_place.ensures at c.chained_segment_id-segment_id.ensures)
+    c.info_field-info.ensures (rw c.new-hop_place.ensures at c.hop_field.ensures) c.hop_count-count.ensures.0 c.hop_fits.ensures in
     segment_begun _ _ _ _ _ _ _ (c.timestamp.ensures ∙ ap timestamp c.info_field-info.ensures) c.if-journey-timestamp.false
     (asked_no walked.asked (omega (arith, c.hop_count-count.ensures.0)) answered (ap not c.if-not-hop_fits.true))
 
 pub loop-hop-preserved : goal.loop-hop-preserved
 loop-hop-preserved c =
     let walked = c.loop-hop.invariant in
-    let answered = hop_answered walked c.requires c.chained_segment_id-segment_id.ensures c.info_field-info.ensures c.hop_field.ensures
-    c.hop_count-count.ensures.0 c.hop_fits.ensures in
+    let answered = hop_answered walked c.requires (rw c.new-hop_place.ensures at c.chained_segment_id-segment_id.ensures)
+    c.info_field-info.ensures (rw c.new-hop_place.ensures at c.hop_field.ensures) c.hop_count-count.ensures.0 c.hop_fits.ensures in
     let less : c.loop-hop.hop + 1 - 1 ≡ c.loop-hop.hop = omega arith in
     record {
       asked = asked_yes walked.asked (omega (arith, c.hop_count-count.ensures.0)) answered (ap not c.if-not-hop_fits.false);
       reached = record_more _ _ _ _ walked.reached c.next_station-station.ensures;
-      chained = rw less c.chained_segment_id-segment_id.ensures;
+      chained = rw less (rw c.new-hop_place.ensures at c.chained_segment_id-segment_id.ensures);
     }
 
 pub returns : goal.returns
