@@ -21,14 +21,19 @@ pub fn u8_at(bytes: &[u8], at: u8) -> u8
 
 // Here and in `u32_at` one comparison serves all bytes of a number that does not run past the end. They are two functions: with the
 // length as a const parameter, what `from_fn` gives stayed open.
+pub fn be16_at(bytes: &[u8], at: usize) -> u16
+    ensures { result ≡ be16_at bytes.now at }
+{
+    match bytes.get(at..) {
+        Some([high, low, ..]) => u16::from_be_bytes([*high, *low]),
+        _ => u16::from_be_bytes([byte_at(bytes, at), 0]),
+    }
+}
+
 pub fn u16_at(bytes: &[u8], at: u8) -> u16
     ensures { result ≡ be16_at bytes.now at }
 {
-    let place = usize::from(at);
-    match bytes.get(place..) {
-        Some([high, low, ..]) => u16::from_be_bytes([*high, *low]),
-        _ => u16::from_be_bytes([byte_at(bytes, place), 0]),
-    }
+    be16_at(bytes, usize::from(at))
 }
 
 pub fn u32_at(bytes: &[u8], at: u8) -> u32
