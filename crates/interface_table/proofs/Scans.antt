@@ -3,32 +3,42 @@
 use mathlib.Core.Path.{◌≡◌, refl, ◌∙◌}
 use mathlib.Core.Bool.{Bool, true, false, cond, not, ◌&&◌}
 use mathlib.Core.List.{List, [], ◌∷◌}
-use Prim.Native.Nat.{ℕ, suc, ◌+◌, ◌≤◌, ◌<◌}
+use Prim.Native.Nat.{ℕ, suc, ◌+◌, ◌-◌, ◌≤◌, ◌<◌}
 use native.Mathlib.Numerals.{add-one}
 use native.Mathlib.Omega.{arith}
 use lib.Dec.{eqb, ltb, leb-suc-suc, leb-zero}
-use lib.ListN.{length, get_or, take, drop, drop_of_length-le}
+use lib.ListN.{length, get_or, drop, length-drop, drop_of_length-le}
 use lib.Seq.{drop-cons}
 use Rattle.std.specs.Prelude.{Option, Some, None, nat_lt}
 use Rattle.std.specs.Option.{option_and_then}
 use Rattle.std.specs.List.{slice_get, position, position_or_len}
 use Rattle.interface_table.specs.Table.{ids_ascending, states_sound, state_of}
 
--- ---- each number is above the one before it, in what is left
+-- ---- each number is above the one before it
 
-pub pair_more : (ids : List ℕ) → 2 ≤ length ids
-    → ids_ascending ids ≡ (ltb (get_or (take 2 ids) 0 0) (get_or (take 2 ids) 1 0) && ids_ascending (drop 1 ids))
-unfolding ids_ascending
-pair_more [] h = absurd (omega arith)
-pair_more (id ∷ []) h = absurd (omega arith)
-pair_more (id ∷ next ∷ ids) h = refl
+module _ (ids : List ℕ) (i : ℕ) where
+  pub ids_more : 1 ≤ i → i < length ids
+      → ids_ascending (drop (i - 1) ids) ≡ (ltb (get_or ids (i - 1) 0) (get_or ids i 0) && ids_ascending (drop (i + 1 - 1) ids))
+  unfolding ids_ascending
+  ids_more low h = go (i - 1) (omega arith)
+    where
+      go : (k : ℕ) → k + 1 ≡ i → ids_ascending (drop k ids) ≡ (ltb (get_or ids k 0) (get_or ids i 0) && ids_ascending (drop (i + 1 - 1) ids))
+      go k e =
+          let here : k < length ids = omega arith in
+          let next : i ≡ suc k = omega arith in
+          let there : suc k < length ids = omega arith in
+          let back : suc k + 1 - 1 ≡ suc k = omega arith in
+          rw (next, back, drop-cons ids k 0, drop-cons ids (suc k) 0)
 
--- the last number has none after it
-pub pairs_end : (ids : List ℕ) → length ids < 2 → ids_ascending ids ≡ true
-unfolding ids_ascending
-pairs_end [] h = refl
-pairs_end (id ∷ []) h = refl
-pairs_end (id ∷ next ∷ ids) h = absurd (omega arith)
+  -- the last number has none after it
+  pub ids_end : length ids ≤ i → ids_ascending (drop (i - 1) ids) ≡ true
+  unfolding ids_ascending
+  ids_end h = short (drop (i - 1) ids) (rw length-drop (omega arith))
+    where
+      short : (l : List ℕ) → length l ≤ 1 → ids_ascending l ≡ true
+      short [] g = refl
+      short (id ∷ []) g = refl
+      short (id ∷ next ∷ ids) g = absurd (omega arith)
 
 -- ---- each state is sound
 
