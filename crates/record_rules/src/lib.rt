@@ -24,6 +24,7 @@ pub fn is_size_sound(itinerary: Itinerary<'_>) -> bool
 pub fn is_index_sound(itinerary: Itinerary<'_>, index: u32) -> bool
     ensures { result ≡ index_sound (layout_of itinerary.entry.form) itinerary.entry.bytes.now index }
 {
+    // By `as`: `usize` is not `From<u32>`, and a `try_from` would have an error that never comes.
     (index as usize) < itinerary.record_count()
 }
 
@@ -37,7 +38,8 @@ pub fn is_next_sound(itinerary: Itinerary<'_>, index: u32) -> bool
 
 // ---- the bytes that are named zero
 //
-// A function for each kind of record. One function that takes ranges would need others to pick them: three again, each with a match on the form.
+// A function for each kind of record. One function that takes ranges would need others to pick them: three again, each with a match on
+// the form.
 
 fn are_zero(itinerary: Itinerary<'_>, index: u32, field: u8, count: u8) -> bool
     ensures { result ≡ are_zero (layout_of itinerary.entry.form) itinerary.entry.bytes.now index field count }
@@ -48,7 +50,8 @@ fn are_zero(itinerary: Itinerary<'_>, index: u32, field: u8, count: u8) -> bool
 
 #[tactic(auto, unfolding(crate::specs::Rules::zeros_sound, records::specs::Records::every))]
 pub fn are_interface_zeros_sound(itinerary: Itinerary<'_>, index: u32) -> bool
-    ensures { result ≡ zeros_sound (layout_of itinerary.entry.form) itinerary.entry.bytes.now (layout_of itinerary.entry.form).interface_zeros index }
+    ensures { result ≡ zeros_sound (layout_of itinerary.entry.form) itinerary.entry.bytes.now
+        (layout_of itinerary.entry.form).interface_zeros index }
 {
     match itinerary.form {
         Form::Narrow => are_zero(
@@ -62,7 +65,8 @@ pub fn are_interface_zeros_sound(itinerary: Itinerary<'_>, index: u32) -> bool
 
 #[tactic(auto, unfolding(crate::specs::Rules::zeros_sound, records::specs::Records::every))]
 pub fn are_station_zeros_sound(itinerary: Itinerary<'_>, index: u32) -> bool
-    ensures { result ≡ zeros_sound (layout_of itinerary.entry.form) itinerary.entry.bytes.now (layout_of itinerary.entry.form).station_zeros index }
+    ensures { result ≡ zeros_sound (layout_of itinerary.entry.form) itinerary.entry.bytes.now
+        (layout_of itinerary.entry.form).station_zeros index }
 {
     match itinerary.form {
         Form::Narrow => {
@@ -83,7 +87,8 @@ pub fn are_station_zeros_sound(itinerary: Itinerary<'_>, index: u32) -> bool
 
 #[tactic(auto, unfolding(crate::specs::Rules::zeros_sound, records::specs::Records::every))]
 fn are_head_zeros_sound(itinerary: Itinerary<'_>) -> bool
-    ensures { result ≡ zeros_sound (layout_of itinerary.entry.form) itinerary.entry.bytes.now (layout_of itinerary.entry.form).head_zeros 0 }
+    ensures { result ≡ zeros_sound (layout_of itinerary.entry.form) itinerary.entry.bytes.now
+        (layout_of itinerary.entry.form).head_zeros 0 }
 {
     match itinerary.form {
         Form::Narrow => are_zero(itinerary, 0, HeadLayout::ZEROS, HeadLayout::ZEROS_BYTES),

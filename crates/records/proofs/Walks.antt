@@ -8,8 +8,6 @@ use native.Mathlib.Omega.{arith}
 use borrow.Author.Tests.{eq-eqb, ne_eqb, eqb-false}
 use lib.Dec.{eqb}
 use lib.ListN.{length}
-use Rattle.std.specs.List.{slice_get}
-use Rattle.std.specs.Prelude.{Some}
 use Rattle.records.specs.Layout.{Layout}
 use Rattle.records.specs.Records.{next_of, chain_within}
 
@@ -54,15 +52,3 @@ module _ (layout : Layout) (itinerary : List ℕ) where
           let tail : chain_within layout itinerary left (next_of layout itinerary index) ≡ xs = cc in
           let d : suc left - 1 ≡ left = omega arith in
           (omega arith, eqb-false index 0 z, head, rw (d, ← head) (sym tail))
-
-  pub peeked : (left index x : ℕ) → Some x ≡ slice_get (chain_within layout itinerary left index) 0
-      → (1 ≤ left) × (chain_within layout itinerary left index ≡ x ∷ chain_within layout itinerary (left - 1) (next_of layout itinerary x))
-  peeked left index x e = go (chain_within layout itinerary left index) refl e
-    where
-      go : (xs : List ℕ) → chain_within layout itinerary left index ≡ xs → Some x ≡ slice_get xs 0
-          → (1 ≤ left) × (xs ≡ x ∷ chain_within layout itinerary (left - 1) (next_of layout itinerary x))
-      go [] d e = cc
-      go (y ∷ ys) d e =
-          let starts = chain_starts left index y ys d in
-          let same : y ≡ x = cc in
-          (starts.0, rw (starts.3, same))

@@ -1,7 +1,6 @@
--- For the contracts of inner functions: the records reached where chains are followed only as far as a limit goes, and a list without the
--- numbers in front that are below a bound.
+-- For the contracts of inner functions: the records reached where chains are followed only as far as a limit goes.
 -- Assumes nothing.
-use Rattle.std.specs.Prelude.{ℕ, cond, List, [], ◌∷◌, ltb}
+use Rattle.std.specs.Prelude.{ℕ, List}
 use Rattle.records.specs.Layout.{Layout}
 use Rattle.records.specs.Records.{first_interface_of, first_station, chain_within}
 
@@ -11,7 +10,3 @@ module _ (layout : Layout) (itinerary : List ℕ) where
 
   abbrev pub table_records_within : ℕ → ℕ → List ℕ
   table_records_within table_limit station = chain_within layout itinerary table_limit (first_interface_of layout itinerary station)
-
-unfoldable pub drop_below : ℕ → List ℕ → List ℕ
-drop_below bound [] = []
-drop_below bound (x ∷ xs) = cond (ltb x bound) (drop_below bound xs) (x ∷ xs)

@@ -52,6 +52,7 @@ impl Form {
     pub fn offset(self, index: u32, field: u8) -> usize
         ensures { (result ≡ offset (layout_of self) index field) × (result < 1099511627776) }
     {
+        // By `as`: `usize` is not `From<u32>`, and a `try_from` would have an error that never comes.
         self.layout().record_bytes * (index as usize) + usize::from(field)
     }
 }

@@ -4,13 +4,13 @@
 pub mod form;
 pub mod layout;
 
-ghost use Rattle.std.specs.Prelude.{◌≡◌, slice_get};
+ghost use Rattle.std.specs.Prelude.{◌≡◌};
 ghost use Rattle.std.specs.Iterator.{YieldsFirst, item_count};
 ghost use Rattle.octets.specs.Bytes.{be16_at};
 ghost use Rattle.records.specs.Layout.{layout_of, offset};
 ghost use Rattle.records.specs.Records.{record_count, next_of, arrival_of, first_interface_of, key_of};
 ghost use Rattle.records.specs.Records.{interface_number_of, interface_state_of};
-ghost use Rattle.records.specs.Records.{chain_within, chain, station_records, table_records};
+ghost use Rattle.records.specs.Records.{chain_within, station_records, table_records};
 ghost use Rattle.records.specs.Inner.{station_records_within, table_records_within};
 ghost use Rattle.records.specs.Chain.{records_left};
 
@@ -34,12 +34,7 @@ impl<'a> Itinerary<'a> {
     fn u16_field(self, index: u32, field: u8) -> u16
         ensures { result ≡ be16_at self.entry.bytes.now (offset (layout_of self.entry.form) index field) }
     {
-        let at = self.form.offset(index, field);
-        // One comparison serves both bytes of a field that does not run past the end.
-        match self.bytes.get(at..).and_then(|rest| rest.first_chunk()) {
-            Some(pair) => u16::from_be_bytes(*pair),
-            None => u16::from_be_bytes([octets::byte_at(self.bytes, at), 0]),
-        }
+        octets::be16_at(self.bytes, self.form.offset(index, field))
     }
 
     // How an index is read differs by form.
@@ -104,16 +99,10 @@ impl<'a> Itinerary<'a> {
         )
     }
 
-    // ---- the records of a chain, from one on
+    // ---- the records of a chain: the whole of it, or no more of it than a limit
 
-    pub fn chain(self, first: u32) -> Chain<'a>
-        ensures { records_left result ≡ chain (layout_of self.entry.form) self.entry.bytes.now first }
-    {
-        self.chain_within(first, self.record_count())
-    }
-
-    // No more of it than the limit.
-    pub fn chain_within(self, first: u32, limit: usize) -> Chain<'a>
+    // The limit can be greater than the number of records, where the whole of a chain that goes round ends: it is not `take` of the whole.
+    fn chain_within(self, first: u32, limit: usize) -> Chain<'a>
         ensures { records_left result ≡ chain_within (layout_of self.entry.form) self.entry.bytes.now limit first }
     {
         Chain {
@@ -126,7 +115,7 @@ impl<'a> Itinerary<'a> {
     pub fn station_records(self) -> Chain<'a>
         ensures { records_left result ≡ station_records (layout_of self.entry.form) self.entry.bytes.now }
     {
-        self.chain(self.next(0))
+        self.station_records_within(self.record_count())
     }
 
     pub fn station_records_within(self, limit: usize) -> Chain<'a>
@@ -138,7 +127,7 @@ impl<'a> Itinerary<'a> {
     pub fn table_records(self, station: u32) -> Chain<'a>
         ensures { records_left result ≡ table_records (layout_of self.entry.form) self.entry.bytes.now station }
     {
-        self.chain(self.first_interface(station))
+        self.table_records_within(station, self.record_count())
     }
 
     pub fn table_records_within(self, station: u32, limit: usize) -> Chain<'a>
@@ -156,18 +145,6 @@ pub struct Chain<'a> {
     left: usize,
 }
 
-impl<'a> Chain<'a> {
-    // The first of them, which stays.
-    pub fn peek(&self) -> Option<u32>
-        ensures { result ≡ slice_get (records_left self.now) 0 }
-    {
-        if self.left == 0 || self.index == 0 {
-            return None;
-        }
-        Some(self.index)
-    }
-}
-
 impl<'a> Iterator for Chain<'a> {
     type Item = u32;
 
@@ -175,8 +152,12 @@ impl<'a> Iterator for Chain<'a> {
 
     ghost remaining = { item_count records_left };
 
+    #[tactic(auto, using(crate::proofs::Walks::chain_end, crate::proofs::Walks::chain_out, crate::proofs::Walks::chain_on))]
     fn next(&mut self) -> Option<u32> {
-        let index = self.peek()?;
+        let index = self.index;
+        if self.left == 0 || index == 0 {
+            return None;
+        }
         self.index = self.itinerary.next(index);
         self.left -= 1;
         Some(index)

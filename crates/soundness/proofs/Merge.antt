@@ -1,20 +1,25 @@
 -- One pass along the stations' chain and a table's finds a record that is in both, since both go up.
 -- Assumes nothing.
-use mathlib.Core.Path.{◌≡◌, refl, sym, subst, ◌∙◌}
+use mathlib.Core.Path.{◌≡◌, refl, ap, sym, subst, ◌∙◌}
 use mathlib.Core.Bool.{Bool, true, false, cond, not, ◌&&◌, and-false}
 use mathlib.Core.List.{List, [], ◌∷◌}
 use mathlib.Core.Logic.{⊎_elim}
 use Prim.Native.Nat.{ℕ, zero, suc, ◌+◌, ◌-◌, ◌≤◌}
 use native.Mathlib.Omega.{arith}
-use borrow.Author.Tests.{ne_eqb, le-leb, leb-true, ltb-true, ltb-false, eqb-false}
+use borrow.Author.Tests.{ne_eqb, le-leb, leb-true, leb-false, ltb-true, ltb-false, lt-ltb, le-ltb, eqb-false}
 use lib.Dec.{eqb, leb, ltb}
 use Rattle.octets.proofs.Bools.{each_of, each_of_3, each_way}
-use Rattle.std.specs.List.{slice_get}
-use Rattle.std.specs.Option.{MatchOption, option_eq}
+use Rattle.std.specs.List.{FoldsTo, slice_get}
+use denote.Param.Members.{Mut}
+use denote.Ref.{Bor}
+use Rattle.std.specs.Fn.{CalledAt}
+use Rattle.std.specs.Iterator.{YieldsFirst, YieldsThen, FindsItem}
+use Rattle.std.specs.Option.{MatchOption, IfSome, option_eq}
+use Rattle.records.specs.Chain.{records_left}
+use Rattle.records.specs.declared.Chain.{Chain}
 use Rattle.std.specs.Prelude.{Option, Some, None}
 use Rattle.records.specs.Layout.{Layout}
 use Rattle.records.specs.Records.{every, next_of, chain_within}
-use Rattle.records.specs.Inner.{drop_below}
 use Rattle.record_rules.specs.Rules.{next_sound, zeros_sound}
 use Rattle.soundness.specs.Soundness.{is_no_station, interface_sound}
 use Rattle.records.proofs.Every.{every_implied, every_same}
@@ -35,6 +40,11 @@ up_each : (xs : List ℕ) (low : ℕ) → Up low xs → every (λ x. leb low x) 
 unfolding every
 up_each [] low u = refl
 up_each (x ∷ xs) low u = rw (le-leb low x u.0) (up_each xs low (up_from xs low (x + 1) (omega (arith, u.0)) u.1))
+
+-- without the numbers in front that are below a bound
+unfoldable pub drop_below : ℕ → List ℕ → List ℕ
+drop_below bound [] = []
+drop_below bound (x ∷ xs) = cond (ltb x bound) (drop_below bound xs) (x ∷ xs)
 
 up_dropped : (xs : List ℕ) (low bound : ℕ) → Up low xs → Up bound (drop_below bound xs)
 unfolding drop_below
@@ -199,7 +209,21 @@ module _ {layout : Layout} {itinerary chained records stations table : List ℕ}
           let none = none_here reached index up n in
           record { rest = skip ∙ rw (e, none); low = index; up = up; chain = later layout itinerary index later_table (rw turn at merged.chain) }
 
--- ---- the loop that skips: whether the first is below the bound
+-- ---- the record that was reached, before those left
+
+abbrev pub held : Option ℕ → List ℕ → List ℕ
+held None xs = []
+held (Some x) xs = x ∷ xs
+
+pub first_held : (reached : Option ℕ) (left : List ℕ) → reached ≡ slice_get (held reached left) 0
+first_held None left = refl
+first_held (Some x) left = refl
+
+pub held_next : (reached : Option ℕ) (xs left : List ℕ) → MatchOption reached ((xs ≡ []) × (left ≡ [])) (λ x. xs ≡ x ∷ left) → held reached left ≡ xs
+held_next None xs left h = sym h.0
+held_next (Some x) xs left h = sym h
+
+-- ---- those below a bound are skipped: whether the first is
 
 abbrev pub starts_below : ℕ → List ℕ → Bool
 starts_below bound [] = false
@@ -215,8 +239,27 @@ unfolding drop_below
 skipped_over bound [] e = refl
 skipped_over bound (x ∷ xs) e = rw e
 
-pub skipped_on : (bound : ℕ) (xs ys : List ℕ) (first : Option ℕ) → starts_below bound xs ≡ true
-    → MatchOption first ((xs ≡ []) × (ys ≡ [])) (λ x. xs ≡ x ∷ ys) → drop_below bound xs ≡ drop_below bound ys
-unfolding drop_below
-skipped_on bound xs ys None e h = let none : false ≡ true = rw h.0 at e in cc
-skipped_on bound xs ys (Some x) e h = let below : ltb x bound ≡ true = rw h at e in rw (h, below)
+-- the first that is not below it, found among those left
+module _ {F : Type 0} {g : Mut F (Bor ℕ × Unit {0}) Bool} (bound : ℕ) (f : F)
+    (computes : (x : ℕ) (b : Bool) (q : F) → CalledAt g f x b q → (q ≡ f) × (b ≡ leb bound x)) (u : Chain) where
+  found_among : (s : Chain) (r : Option ℕ) (xs : List ℕ) (q : F) → YieldsThen (YieldsFirst records_left) s xs r u
+      → FoldsTo (λ p x q. CalledAt g p x false q) f xs q → IfSome r (λ x. (h : F) × CalledAt g q x true h)
+      → held r (records_left u) ≡ drop_below bound (records_left s)
+  unfolding drop_below
+  found_among s None [] q (t, here, step) folds last = let none : records_left s ≡ [] = ap records_left here ∙ step.0 in rw none
+  found_among s (Some x) [] q (t, here, step) folds (h, call) =
+      let first : records_left s ≡ x ∷ records_left u = ap records_left here ∙ step in
+      let high = leb-true bound x (sym (computes x true h (subst (λ p. CalledAt g p x true h) (sym folds) call)).1) in
+      rw (first, le-ltb x bound high)
+  found_among s r (y ∷ ys) q (t, (j, first, rest), step) (p, call, folds) last =
+      let low = leb-false bound y (sym (computes y false p call).1) in
+      let same = (computes y false p call).0 in
+      rw (first, lt-ltb y bound low)
+      (found_among j r ys q (t, rest, step) (subst (λ p. FoldsTo (λ p x q. CalledAt g p x false q) p ys q) same folds) last)
+
+  pub skipped_on : (stations : Chain) (reached found : Option ℕ) → starts_below bound (held reached (records_left stations)) ≡ true
+      → FindsItem (YieldsFirst records_left) g stations f found u
+      → held found (records_left u) ≡ drop_below bound (held reached (records_left stations))
+  unfolding drop_below
+  skipped_on stations None found e finds = cc
+  skipped_on stations (Some x) found e (xs, q, yields, folds, last) = rw e (found_among stations found xs q yields folds last)

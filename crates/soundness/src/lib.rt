@@ -6,13 +6,12 @@
 ghost use Rattle.std.specs.Prelude.{◌≡◌, true};
 ghost use Rattle.records.specs.Layout.{layout_of};
 ghost use Rattle.records.specs.Records.{every};
-ghost use Rattle.records.specs.Chain.{records_left};
-ghost use Rattle.records.specs.Inner.{drop_below, station_records_within, table_records_within};
+ghost use Rattle.records.specs.Inner.{station_records_within, table_records_within};
 ghost use Rattle.record_rules.specs.Rules.{next_sound};
 ghost use Rattle.soundness.specs.Soundness.{interface_sound, station_sound};
 ghost use Rattle.soundness.specs.Inner.{sound_within};
 
-use records::{Chain, Itinerary};
+use records::Itinerary;
 
 // How far chains are followed: for so many stations, and for so many records of each station's table.
 #[derive(Clone, Copy)]
@@ -23,16 +22,6 @@ pub struct Limits {
 
 // ---- the records of a table
 
-// The chain from its first record on that is not below the index. `skip_while` would hand that record out and keep it from the next search.
-fn skip_below(mut stations: Chain<'_>, index: u32) -> Chain<'_>
-    ensures { records_left result ≡ drop_below index (records_left stations.entry) }
-{
-    while stations.peek().is_some_and(|station| station < index) {
-        stations.next();
-    }
-    stations
-}
-
 // Both chains go up, the stations' as required and the table's as asked, so one pass along both finds a record that is in both.
 fn are_interfaces_sound(itinerary: Itinerary<'_>, limits: Limits, station: u32) -> bool
     requires { every (next_sound (layout_of itinerary.form) itinerary.bytes.now)
@@ -41,15 +30,18 @@ fn are_interfaces_sound(itinerary: Itinerary<'_>, limits: Limits, station: u32) 
         (station_records_within (layout_of itinerary.entry.form) itinerary.entry.bytes.now limits.stations))
         (table_records_within (layout_of itinerary.entry.form) itinerary.entry.bytes.now limits.table station) }
 {
-    let mut stations = itinerary.chain_within(itinerary.next(0), limits.stations);
+    let mut stations = itinerary.station_records_within(limits.stations);
+    let mut reached = stations.next();
     for index in itinerary.table_records_within(station, limits.table) {
         if !(record_rules::is_next_sound(itinerary, index)
             & record_rules::are_interface_zeros_sound(itinerary, index))
         {
             return false;
         }
-        stations = skip_below(stations, index);
-        if stations.peek() == Some(index) {
+        if reached.is_some_and(|reached| reached < index) {
+            reached = stations.find(|station| *station >= index);
+        }
+        if reached == Some(index) {
             return false;
         }
     }
