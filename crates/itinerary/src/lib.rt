@@ -39,7 +39,7 @@ fn arrivals_fit(itinerary: Itinerary<'_>, station_limit: usize) -> bool
 pub fn fits(itinerary: Itinerary<'_>, wanted: u8) -> bool
     ensures { result ≡ itinerary_fits (layout_of itinerary.entry.form) itinerary.entry.bytes.now wanted }
 {
-    let wanted = wanted as usize;
+    let wanted = usize::from(wanted);
     let limit = wanted + 1;
     let limits = Limits {
         stations: limit,

@@ -7,6 +7,7 @@ returns c =
     let itinerary = c.args.itinerary in
     rw (
       ← fits_asked (layout_of itinerary.form) itinerary.bytes.now c.args.wanted,
+      ← c.from-wanted.ensures,
       ← c.is_sound_within.ensures,
       ← c.are_tables_sound.ensures,
       ← c.arrivals_fit.ensures,
