@@ -1,10 +1,10 @@
 -- What the halves cite of where a path stands.
 -- Assumes nothing.
 use mathlib.Core.Path.{◌≡◌, refl, sym, ◌∙◌}
-use mathlib.Core.Bool.{Bool, true, false, cond}
+use mathlib.Core.Bool.{Bool, true, false, not, ◌&&◌, ◌||◌, cond}
 use mathlib.Core.List.{List, [], ◌∷◌, ◌++◌}
 use Prim.Native.Nat.{ℕ, ◌+◌, ◌<◌}
-use borrow.Author.Tests.{eq-eqb, lt-ltb}
+use borrow.Author.Tests.{not-true, not-false, eq-eqb, lt-ltb}
 use lib.Dec.{eqb, ltb}
 use Rattle.std.specs.Prelude.{Option, Some, None, Ok, Err}
 use Rattle.standard_path.specs.Meta.{curr_hf, curr_inf, seg0_len, seg1_len, seg2_len}
@@ -112,3 +112,11 @@ index_yes path {index} e h = eq-eqb index (curr_inf path) (h ∙ e)
 pub infos_yes : (path : List ℕ) {actual count : ℕ} → actual ≡ curr_inf path → count ≡ infos path → actual < count
     → ltb (curr_inf path) (infos path) ≡ true
 infos_yes path {actual} {count} e f h = rw (e, f) at (lt-ltb actual count h)
+
+-- the test of 6, of a hop in this segment, and its opposite
+module _ {path : List ℕ} {h index : ℕ} {start end : Bool} (l : Lies path h index start end) where
+  pub allowed : (peering_path : Bool) → not (peering_path || not (start && end)) ≡ false → (peering_path || not (start && end)) ≡ true
+  allowed peering_path e = not-false (peering_path || not (start && end)) e
+
+  pub alone_no : (peering_path : Bool) → not (peering_path || not (start && end)) ≡ true → (peering_path || not (start && end)) ≡ false
+  alone_no peering_path e = not-true (peering_path || not (start && end)) e
