@@ -42,7 +42,7 @@ fn path_expiry(path: &[u8]) -> u32
 }
 
 // When the path ends, in seconds of Unix time; or the first of 01's questions 2, 3 and 4 that is answered no.
-#[tactic(auto, using(standard_path::proofs::HeaderAsked::header_refused, standard_path::proofs::HeaderAsked::header_complete), unfolding(crate::specs::Expiration::expiration))]
+#[tactic(auto, using(standard_path::proofs::HeaderAsked::header_answers), unfolding(crate::specs::Expiration::expiration))]
 pub fn expiration(path: &[u8]) -> Result<u32, HeaderError>
     ensures { result ≡ expiration path.now }
 {
@@ -50,7 +50,8 @@ pub fn expiration(path: &[u8]) -> Result<u32, HeaderError>
     Ok(path_expiry(path))
 }
 
-// 01's number of a refusal; 0, which no refusal has, for a time, since whoever writes it down writes a number in any case.
+// 01's number of a refusal, one view of it, so a function and no `From`; 0, which no refusal has, for a time, since whoever writes it
+// down writes a number in any case.
 pub fn expiration_number(answer: Result<u32, HeaderError>) -> u8
     ensures { result ≡ expiration_number answer }
 {

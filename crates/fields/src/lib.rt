@@ -49,7 +49,7 @@ pub fn timestamp(info: &[u8]) -> u32
     octets::u32_at(info, InfoFieldLayout::TIMESTAMP)
 }
 
-// ---- a hop field
+// ---- a hop field. Each of its readers is one line: one for both interfaces would take the place of the field, as `u16_at` does
 
 #[tactic(auto, unfolding(crate::specs::Fields::cons_egress_alert))]
 pub fn cons_egress_router_alert(hop: &[u8]) -> bool

@@ -101,3 +101,8 @@ module _ (path : List ℕ) where
       → reverse_parts_there (infos path) (hops path) (swap_lengths path) ≡ reverse_parts (infos path) (hops path) (swap_lengths path)
   unfolding header_size
   parts_all_there e = parts_there _ _ _ (rw (length_swap_lengths path) (whole (reversible e).complete).fits)
+
+-- what the functions name
+pub ruleset header_answers = (refused_header, complete_header)
+
+pub ruleset reversible_path = (some_hop, hop_inside, info_inside, parts_all_there)

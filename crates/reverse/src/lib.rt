@@ -31,7 +31,7 @@ impl From<HeaderError> for PathReverseError {
     }
 }
 
-// 01's number of an error.
+// 01's number of an error: one view of it, asked for by that word, so a function and no `From`.
 pub fn reverse_number(error: PathReverseError) -> u8
     ensures { result ≡ reverse_number error }
 {
@@ -44,7 +44,7 @@ pub fn reverse_number(error: PathReverseError) -> u8
 }
 
 // 01's questions 2, 3 and 4, then 20, 21 and 22.
-#[tactic(auto, using(crate::proofs::Reversible::refused_header, crate::proofs::Reversible::complete_header), unfolding(questions::specs::Questions::asks))]
+#[tactic(auto, using(crate::proofs::Reversible::header_answers), unfolding(questions::specs::Questions::asks))]
 fn answer(path: &[u8]) -> Result<(), PathReverseError>
     ensures { result ≡ reverse_answer path.now }
 {
@@ -61,7 +61,7 @@ fn answer(path: &[u8]) -> Result<(), PathReverseError>
     Ok(())
 }
 
-#[tactic(auto, using(crate::proofs::Reversible::some_hop, crate::proofs::Reversible::hop_inside, crate::proofs::Reversible::info_inside, crate::proofs::Reversible::parts_all_there), unfolding(crate::specs::Reverse::reversed))]
+#[tactic(auto, using(crate::proofs::Reversible::reversible_path), unfolding(crate::specs::Reverse::reversed))]
 fn turn_around(path: &mut [u8])
     requires { reverse_answer path.old ≡ Ok tt }
     ensures { path.new ≡ reversed path.old }

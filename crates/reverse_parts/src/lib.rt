@@ -61,8 +61,9 @@ pub fn swap_lengths(path: &mut [u8])
 
 // ---- the fields
 
-// Turns C over in each info field; by index, since `as_chunks_mut` would say nothing of what it leaves in the path.
-#[tactic(auto, using(crate::proofs::Flags::toggled_by_mask), unfolding(crate::specs::Parts::toggle_cons_dirs, crate::specs::Parts::toggle_cons_dir))]
+// Turns C over in each info field; by index, since of a slice that was lent by chunks the library tells the length alone.
+#[tactic(auto, using(crate::proofs::Flags::toggled_by_mask), // for each field, and for all
+unfolding(crate::specs::Parts::toggle_cons_dir, crate::specs::Parts::toggle_cons_dirs))]
 fn toggle_cons_dirs(path: &mut [u8], infos: u8)
     ensures { path.new ≡ toggle_cons_dirs infos path.old }
 {

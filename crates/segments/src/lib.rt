@@ -9,7 +9,8 @@
 
 ghost use Rattle.std.specs.Prelude.{◌≡◌, ◌+◌, ◌<◌, eqb, IfSome, ⊤};
 ghost use Rattle.std.specs.Iterator.{YieldsFirst, item_count, MakesProgress};
-ghost use Rattle.segments.specs.Segments.{segment_count, seg_len, hop_fields, next_segment, behind, place_after, started, step_of, advanced, rest};
+ghost use Rattle.segments.specs.Segments.{segment_count, seg_len, hop_fields, next_segment, behind, place_after};
+ghost use Rattle.segments.specs.Segments.{started, step_of, advanced, rest};
 
 use fields::layout::HopFieldLayout;
 use standard_path::view;
@@ -38,6 +39,7 @@ pub fn is_empty(path: &[u8]) -> bool
     segment_count(path) == 0
 }
 
+// 0 from index 3 on, where `length` of segment_check has the third's: so they are two.
 #[tactic(auto, unfolding(crate::specs::Segments::seg_len))]
 fn seg_len(path: &[u8], index: u8) -> u8
     ensures { result ≡ seg_len path.now index }

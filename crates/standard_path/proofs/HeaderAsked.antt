@@ -25,3 +25,5 @@ module _ {A : Type 0} (refuse : HeaderError → A) (path : List ℕ) (after : A)
 
   pub header_complete : header_check path ≡ Ok tt → asks refuse (header_questions path) after ≡ after
   header_complete e = sym (header_asked goes_on path) ∙ ap goes_on e
+
+pub ruleset header_answers = (header_refused, header_complete)

@@ -12,7 +12,8 @@ ghost use Rattle.standard_path.specs.Header.{segment_among, segment_index};
 
 use fields::layout::{HopFieldLayout, InfoFieldLayout, StdPathMetaLayout};
 
-// ---- the meta word. Its bit fields are read by division: the layout's constants say how many values a field has
+// ---- the meta word. Its bit fields are read by division: the layout's constants say how many values a field has. Each reader reads
+// one field: for CurrHF and the third length, which fill the low bits of a byte, one function would take two constants, and so say less
 
 pub fn curr_info_field_idx(path: &[u8]) -> u8
     ensures { result ≡ curr_inf path.now }
@@ -159,7 +160,7 @@ pub enum HeaderError {
     TooManyHops,
 }
 
-// The number is one view of an error.
+// The number is one view of an error, and 01 asks for it by that word: so a function, and no `From`.
 pub fn header_number(error: HeaderError) -> u8
     ensures { result ≡ header_number error }
 {
