@@ -4,6 +4,7 @@
 ghost use Rattle.std.specs.Prelude.{◌≡◌, [], ◌∷◌};
 ghost use Rattle.hop_mac.specs.Mac.{hop_mac};
 
+use aes_keys::expand_key;
 use cmac::KeySchedule;
 
 // One hop MAC, from its key.
@@ -49,7 +50,8 @@ pub extern "C" fn bench_three_hop_macs(
         ∷ [] }
 {
     let table = aes::round_table();
-    let schedule = KeySchedule::new(&table, *key);
+    let round_keys = expand_key(*key);
+    let schedule = KeySchedule::new(&table, &round_keys);
     let a = hop_mac::calculate_hop_mac_with(
         schedule,
         first,

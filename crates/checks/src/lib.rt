@@ -12,6 +12,7 @@ ghost use Rattle.answers.specs.Questions.{first_no};
 ghost use Rattle.validator.specs.Check.{key_mac};
 ghost use Rattle.checks.specs.Checks.{next_field_questions, ingress_questions, egress_questions};
 
+use aes_keys::expand_key;
 use answers::Validation;
 use cmac::KeySchedule;
 use edition::Edition;
@@ -59,7 +60,8 @@ fn validate_checked(
         (key_mac forwarding_key.now) at path.now change)) }
 {
     let table = aes::round_table();
-    let schedule = KeySchedule::new(&table, *forwarding_key);
+    let round_keys = expand_key(*forwarding_key);
+    let schedule = KeySchedule::new(&table, &round_keys);
     let hop_index = view::curr_hop_field_idx(path);
     validate_mac(
         schedule,
@@ -129,6 +131,7 @@ pub fn validate_egress(
         return Ok(());
     }
     let table = aes::round_table();
-    let schedule = KeySchedule::new(&table, *forwarding_key);
+    let round_keys = expand_key(*forwarding_key);
+    let schedule = KeySchedule::new(&table, &round_keys);
     validate_mac(schedule, hop_index, hop, info, fields::segment_id(info))
 }

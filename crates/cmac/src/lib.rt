@@ -89,22 +89,23 @@ fn last_block(k1: [u8; 16], message: &[u8]) -> [u8; 16]
     }
 }
 
-// What the MACs under one key share: a lent round table, the round keys and K1.
+// What the MACs under one key share: a round table and the round keys, both lent, and K1.
 #[derive(Clone, Copy)]
 pub struct KeySchedule<'a> {
     pub table: &'a [u8; 1024],
-    pub round_keys: [[u8; 16]; 11],
+    pub round_keys: &'a [[u8; 16]; 11],
     pub k1: [u8; 16],
 }
 
 impl<'a> KeySchedule<'a> {
     // Any round keys may be given. With `round_table()` the cipher is AES.
-    pub fn from_round_keys(table: &'a [u8; 1024], round_keys: [[u8; 16]; 11]) -> KeySchedule<'a>
+    #[tactic(auto, unfolding(crate::specs::Cmac::subkey1))]
+    pub fn new(table: &'a [u8; 1024], round_keys: &'a [[u8; 16]; 11]) -> KeySchedule<'a>
         ensures table { result.table.now ≡ table.now }
-        ensures round_keys { result.round_keys ≡ round_keys }
-        ensures k1 { result.k1 ≡ subkey1 (cipher_by table.now round_keys) }
+        ensures round_keys { result.round_keys.now ≡ round_keys.now }
+        ensures k1 { result.k1 ≡ subkey1 (cipher_by result.table.now result.round_keys.now) }
     {
-        let k1 = double(encrypt_with(table, round_keys, [0u8; 16]));
+        let k1 = double(encrypt_with(table, *round_keys, [0u8; 16]));
         KeySchedule {
             table,
             round_keys,
@@ -112,24 +113,16 @@ impl<'a> KeySchedule<'a> {
         }
     }
 
-    pub fn new(table: &'a [u8; 1024], key: [u8; 16]) -> KeySchedule<'a>
-        ensures table { result.table.now ≡ table.now }
-        ensures round_keys { result.round_keys ≡ round_keys key }
-        ensures k1 { result.k1 ≡ subkey1 (cipher_by result.table.now result.round_keys) }
-    {
-        KeySchedule::from_round_keys(table, expand_key(key))
-    }
-
     fn encrypt(self, block: [u8; 16]) -> [u8; 16]
-        ensures { result ≡ cipher_by self.entry.table.now self.entry.round_keys block }
+        ensures { result ≡ cipher_by self.entry.table.now self.entry.round_keys.now block }
     {
-        encrypt_with(self.table, self.round_keys, block)
+        encrypt_with(self.table, *self.round_keys, block)
     }
 
     // X after the message's first `count` blocks.
     fn chain(self, message: &[u8], count: usize) -> [u8; 16]
         requires { 16 * count ≤ length message.now }
-        ensures { result ≡ chained (cipher_by self.entry.table.now self.entry.round_keys) message.now count }
+        ensures { result ≡ chained (cipher_by self.entry.table.now self.entry.round_keys.now) message.now count }
     {
         let mut state = [0u8; 16];
         for i in 0..count {
@@ -139,7 +132,7 @@ impl<'a> KeySchedule<'a> {
     }
 
     pub fn aes_cmac(self, message: &[u8]) -> [u8; 16]
-        ensures { result ≡ mac_with (cipher_by self.entry.table.now self.entry.round_keys) self.entry.k1 message.now }
+        ensures { result ≡ mac_with (cipher_by self.entry.table.now self.entry.round_keys.now) self.entry.k1 message.now }
     {
         let state = self.chain(message, blocks_before_last(message.len()));
         self.encrypt(xor_block(state, last_block(self.k1, message)))
@@ -147,11 +140,11 @@ impl<'a> KeySchedule<'a> {
 
     // The same for a message of one block. By words: a block that was put together byte by byte is slow to read back.
     pub fn aes_cmac_block(self, block: [u8; 16]) -> [u8; 16]
-        ensures { result ≡ mac_with (cipher_by self.entry.table.now self.entry.round_keys) self.entry.k1 block }
+        ensures { result ≡ mac_with (cipher_by self.entry.table.now self.entry.round_keys.now) self.entry.k1 block }
     {
         encrypt_words(
             self.table,
-            self.round_keys,
+            *self.round_keys,
             xor_words(words(block), words(self.k1)),
         )
     }
@@ -161,7 +154,8 @@ pub fn aes_cmac(key: [u8; 16], message: &[u8]) -> [u8; 16]
     ensures { result ≡ aes_cmac key message.now }
 {
     let table = round_table();
-    KeySchedule::new(&table, key).aes_cmac(message)
+    let round_keys = expand_key(key);
+    KeySchedule::new(&table, &round_keys).aes_cmac(message)
 }
 
 // The same for a message of one block.
@@ -169,5 +163,6 @@ pub fn aes_cmac_block(key: [u8; 16], block: [u8; 16]) -> [u8; 16]
     ensures { result ≡ aes_cmac key block }
 {
     let table = round_table();
-    KeySchedule::new(&table, key).aes_cmac_block(block)
+    let round_keys = expand_key(key);
+    KeySchedule::new(&table, &round_keys).aes_cmac_block(block)
 }

@@ -8,6 +8,7 @@ ghost use Rattle.station.specs.Station.{station_at};
 ghost use Rattle.hop_check.specs.Hop.{mac_fits, arrives_by, leaves_by, hop_fits};
 ghost use Rattle.hop_check.specs.Inner.{key_mac_by};
 
+use aes_keys::expand_key;
 use cmac::KeySchedule;
 use records::Itinerary;
 use station::lookup;
@@ -18,7 +19,9 @@ use validator::{expected_mac, mac_number};
 fn mac_fits(table: &[u8; 1024], key: [u8; 16], info: &[u8], hop: &[u8], segment_id: u16) -> bool
     ensures { result ≡ mac_fits (key_mac_by table.now key) info.now hop.now segment_id }
 {
-    let expected = expected_mac(KeySchedule::new(table, key), hop, info, segment_id);
+    let round_keys = expand_key(key);
+    let schedule = KeySchedule::new(table, &round_keys);
+    let expected = expected_mac(schedule, hop, info, segment_id);
     let found = mac_number(fields::mac(hop));
     expected == found
 }

@@ -85,7 +85,7 @@ pub fn calculate_hop_mac_with(
     cons_ingress: u16,
     cons_egress: u16,
 ) -> [u8; 6]
-    ensures { result ≡ take 6 (mac_with (cipher_by schedule.entry.table.now schedule.entry.round_keys) schedule.entry.k1
+    ensures { result ≡ take 6 (mac_with (cipher_by schedule.entry.table.now schedule.entry.round_keys.now) schedule.entry.k1
         (mac_input mac_chain_beta timestamp exp_time cons_ingress cons_egress)) }
 {
     let data = mac_input_data(

@@ -1,6 +1,7 @@
 // Known answers of FIPS 197 and RFC 4493, and hop MACs that Python worked out, each on a line.
 #![tactic(auto)]
 
+use aes_keys::expand_key;
 use cmac::KeySchedule;
 use std::io;
 
@@ -37,16 +38,12 @@ fn put(rt: &impl Print, label: &str, value: &[u8]) -> io::Result<()> {
 }
 
 fn last_round_key(key: [u8; 16]) -> [u8; 16] {
-    let round_keys = aes_keys::expand_key(key);
+    let round_keys = expand_key(key);
     round_keys[10]
 }
 
 fn put_cipher(rt: &impl Print, label: &str, key: [u8; 16], input: [u8; 16]) -> io::Result<()> {
-    put(
-        rt,
-        label,
-        &aes::encrypt_block(aes_keys::expand_key(key), input),
-    )
+    put(rt, label, &aes::encrypt_block(expand_key(key), input))
 }
 
 fn put_fips_197(rt: &impl Print) -> io::Result<()> {
@@ -62,7 +59,8 @@ fn put_mac(rt: &impl Print, label: &str, message: &[u8]) -> io::Result<()> {
 fn put_rfc_4493(rt: &impl Print) -> io::Result<()> {
     put_cipher(rt, "RFC 4493 AES-128(key,0)", KEY, [0u8; 16])?;
     let table = aes::round_table();
-    let schedule = KeySchedule::new(&table, KEY);
+    let round_keys = expand_key(KEY);
+    let schedule = KeySchedule::new(&table, &round_keys);
     put(rt, "RFC 4493 K1", &schedule.k1)?;
     put(rt, "RFC 4493 K2", &cmac::double(schedule.k1))?;
     let message = MESSAGE;
@@ -93,8 +91,9 @@ fn put_hop_mac(
     );
     put(rt, label, &from_key)?;
     let table = aes::round_table();
+    let round_keys = expand_key(key);
     let from_schedule = hop_mac::calculate_hop_mac_with(
-        KeySchedule::new(&table, key),
+        KeySchedule::new(&table, &round_keys),
         segment_id,
         timestamp,
         exp_time,

@@ -7,7 +7,7 @@ pub returns : goal.returns
 returns c =
     let schedule = c.new-schedule.ensures in
     let table = schedule.table ∙ c.round_table-table.ensures in
-    λ i. (rw (hop_mac_from_schedule _ _ _ _ _ _ table schedule.round_keys schedule.k1) at c.calculate_hop_mac_with-a.ensures) i
-    ∷ (rw (hop_mac_from_schedule _ _ _ _ _ _ table schedule.round_keys schedule.k1) at c.calculate_hop_mac_with-b.ensures) i
-    ∷ (rw (hop_mac_from_schedule _ _ _ _ _ _ table schedule.round_keys schedule.k1) at c.calculate_hop_mac_with-c.ensures) i
+    λ i. (rw (hop_mac_from_schedule _ _ _ _ _ _ table (schedule.round_keys ∙ c.expand_key-round_keys.ensures) schedule.k1) at c.calculate_hop_mac_with-a.ensures) i
+    ∷ (rw (hop_mac_from_schedule _ _ _ _ _ _ table (schedule.round_keys ∙ c.expand_key-round_keys.ensures) schedule.k1) at c.calculate_hop_mac_with-b.ensures) i
+    ∷ (rw (hop_mac_from_schedule _ _ _ _ _ _ table (schedule.round_keys ∙ c.expand_key-round_keys.ensures) schedule.k1) at c.calculate_hop_mac_with-c.ensures) i
     ∷ []

@@ -4,4 +4,4 @@ use Rattle.cmac.specs.Cmac.{chained}
 use Rattle.cmac.proofs.KeySchedule.chain.Given as goal
 
 abbrev pub invariant-loop-i : goal.invariant-loop-i
-invariant-loop-i l = l.state ≡ chained (cipher_by l.fn.self.table.now l.fn.self.round_keys) l.message l.i
+invariant-loop-i l = l.state ≡ chained (cipher_by l.fn.self.table.now l.fn.self.round_keys.now) l.message l.i
