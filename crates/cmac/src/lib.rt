@@ -44,13 +44,6 @@ pub fn double(block: [u8; 16]) -> [u8; 16]
     }
 }
 
-fn block_at(message: &[u8], at: usize) -> [u8; 16]
-    requires { at + 16 ≤ length message.now }
-    ensures { result ≡ block_at message.now at }
-{
-    array::from_fn(|i| message[at + i])
-}
-
 // A byte of the message followed by its padding.
 #[tactic(auto, unfolding(crate::specs::Cmac::padded_byte))]
 fn padded_byte(message: &[u8], at: usize) -> u8
@@ -82,10 +75,9 @@ fn last_block(k1: [u8; 16], message: &[u8]) -> [u8; 16]
     ensures { result ≡ last_block k1 message.now }
 {
     let at = 16 * blocks_before_last(message.len());
-    if message.len() - at == 16 {
-        xor_block(block_at(message, at), k1)
-    } else {
-        xor_block(padding_at(message, at), double(k1))
+    match message[at..].first_chunk::<16>() {
+        Some(block) => xor_block(*block, k1),
+        None => xor_block(padding_at(message, at), double(k1)),
     }
 }
 
@@ -124,9 +116,10 @@ impl<'a> KeySchedule<'a> {
         requires { 16 * count ≤ length message.now }
         ensures { result ≡ chained (cipher_by self.entry.table.now self.entry.round_keys.now) message.now count }
     {
+        let (blocks, _) = message.as_chunks::<16>();
         let mut state = [0u8; 16];
-        for i in 0..count {
-            state = self.encrypt(xor_block(state, block_at(message, 16 * i)));
+        for block in &blocks[..count] {
+            state = self.encrypt(xor_block(state, *block));
         }
         state
     }
