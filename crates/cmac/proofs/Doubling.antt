@@ -1,18 +1,19 @@
 -- RFC 4493's subkey step, on the number that a block is: doubling modulo 2^128, then xor 87 hex if the top bit was set.
 -- Assumes nothing.
 use Prim.Native.Nat.{ℕ, zero, suc, ◌+◌, ◌*◌, ◌/◌, ◌%◌, ◌^◌, ◌<◌}
-use mathlib.Core.Path.{◌≡◌, refl, sym, ap}
+use mathlib.Core.Path.{◌≡◌, refl, sym, ap, ◌∙◌}
 use mathlib.Core.Bool.{Bool, true, false, cond}
 use mathlib.Core.List.{List, [], ◌∷◌}
 use native.Mathlib.Nat.{add-zero, mul-suc, pow-suc, pow-succ'}
 use native.Mathlib.Numerals.{add-one}
 use native.Mathlib.Omega.{arith}
-use lib.Arith.{digits_lt, digits_mod}
+use lib.Arith.{digits_lt, digits_div, digits_mod}
 use lib.Bits.{bit_xor, xor_block as xor_of_parts}
 use lib.Dec.{eqb, ltb}
 use lib.ListN.{length, get_or, get_or-eq_default}
 use lib.Pow.{pow-add}
 use borrow.Author.Tests.{lt-ltb, le-ltb, ltb-false}
+use Rattle.std.specs.Int.{w128, byte_at, bytes_high_first, to_be_bytes, from_be_bytes}
 use Rattle.octets.specs.Bytes.{tabulate}
 use Rattle.aes_words.specs.Block.{xor_block}
 use Rattle.cmac.specs.Cmac.{const_rb, carry_into, shift_left, doubled}
@@ -62,6 +63,33 @@ number_shift f g h (suc n) i =
     rw (number_suc f n i, number_suc g n i, pow-suc, e)
     (omega (arith, number_shift f g h n (suc i), ap (λ (x : ℕ). x * 256 ^ n) (h i)))
 
+-- ---- a block as the library reads and writes it
+
+byte_at_div : (n m : ℕ) → byte_at n m ≡ m / 256 ^ n % 256
+byte_at_div zero m = omega arith
+byte_at_div (suc n) m = refl
+
+-- whatever stands above, the lowest n bytes are those of the list
+low_bytes : (f : ℕ → ℕ) → ((i : ℕ) → f i < 256) → (n i above : ℕ)
+    → bytes_high_first n (above * 256 ^ n + number (tabulate n i f)) ≡ tabulate n i f
+low_bytes f h zero i above = refl
+low_bytes f h (suc n) i above =
+    let e : above * 256 ^ suc n + number (tabulate (suc n) i f) ≡ (above * 256 + f i) * 256 ^ n + number (tabulate n (suc i) f) =
+    rw (number_suc f n i, pow-suc 256 n) (omega arith) in
+    let top : (above * 256 + f i) % 256 ≡ f i = digits_mod above (h i) in
+    rw (e, byte_at_div n _, digits_div (above * 256 + f i) (number_lt f h n (suc i)), top, low_bytes f h n (suc i) (above * 256 + f i))
+
+written : (f : ℕ → ℕ) → ((i : ℕ) → f i < 256) → to_be_bytes w128 (number (tabulate 16 0 f)) ≡ tabulate 16 0 f
+written f h =
+    let e : number (tabulate 16 0 f) ≡ 0 * 256 ^ 16 + number (tabulate 16 0 f) = omega arith in
+    ap (bytes_high_first 16) e ∙ low_bytes f h 16 0 0
+
+read : (l : List ℕ) → length l ≡ 16 → from_be_bytes w128 l ≡ number l
+unfolding number
+read l e =
+    let sum : number (tabulate 16 0 (λ j. get_or l j 0)) ≡ from_be_bytes w128 l = omega arith in
+    sym sum ∙ ap number (tabulate_get_or l 16 0 (sym e))
+
 -- ---- the theorems
 
 -- v has its top bit set, that is, v is at least h, if its first byte x is at least 128
@@ -107,3 +135,10 @@ module _ (l : List ℕ) (b : Block l) where
   unfolding doubled
   doubled_number =
       rw (← shift_doubles, ← xor_rb) (top_bit (shift_left l) _ (get_or l 0 0) (number l) (2 ^ 127) (b.bytes 0) shift_lt _ refl shift_carry)
+
+-- the shift as the code does it
+pub shift_written : (l : List ℕ) → length l ≡ 16 → ((i : ℕ) → get_or l i 0 < 256) → to_be_bytes w128 (from_be_bytes w128 l * 2 % 2 ^ 128) ≡ shift_left l
+unfolding shift_left
+shift_written l size bytes =
+    let b : Block l = record { size = size; bytes = bytes } in
+    ap (to_be_bytes w128) (ap (λ (n : ℕ). n * 2 % 2 ^ 128) (read l size) ∙ sym (shift_doubles l b)) ∙ written _ (byte_lt l b)

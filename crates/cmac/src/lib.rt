@@ -19,24 +19,18 @@ fn xor_block(left: [u8; 16], right: [u8; 16]) -> [u8; 16]
     array::from_fn(|i| left[i] ^ right[i])
 }
 
-// A byte of a block that is shifted left by one bit, with the byte after it.
-fn shifted(byte: u8, next: u8) -> u8
-    ensures { result ≡ byte * 2 % 256 + next / 128 }
+#[tactic(auto, using(crate::proofs::Doubling::shift_written))]
+fn shift_left(block: &[u8; 16]) -> [u8; 16]
+    ensures { result ≡ shift_left block.now }
 {
-    (byte % 0x80) * 2 + next / 0x80
-}
-
-fn shift_left(block: [u8; 16]) -> [u8; 16]
-    ensures { result ≡ shift_left block }
-{
-    array::from_fn(|i| shifted(block[i], if i < 15 { block[i + 1] } else { 0 }))
+    (u128::from_be_bytes(*block) << 1).to_be_bytes()
 }
 
 // From L to K1, and from K1 to K2.
 pub fn double(block: [u8; 16]) -> [u8; 16]
     ensures { result ≡ doubled block }
 {
-    let shifted = shift_left(block);
+    let shifted = shift_left(&block);
     if block[0] < 0x80 {
         shifted
     } else {
