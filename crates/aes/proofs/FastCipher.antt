@@ -11,6 +11,7 @@ use Rattle.aes.specs.Cipher.{mixed_byte, sub_bytes, shift_rows, mix_columns, rou
 use Rattle.aes_words.specs.Words.{block_words, rotated}
 use Rattle.aes.specs.ByTable.{spreads, round_table, entry_of, substituted_by, column_by, last_column_by, columns, round_by, last_round_by, rounds_by, cipher_by}
 use Rattle.octets.proofs.Xor.{xor_turn}
+use Rattle.aes_words.proofs.WordBytes.{bytes_xor_of, bytes_rotate_8, bytes_rotate_16, bytes_rotate_24, xor_key_words}
 
 abbrev spread : ℕ → List ℕ
 spread s = mul 2 s ∷ s ∷ s ∷ mul 3 s ∷ []
@@ -90,3 +91,8 @@ round_of t k p q = p ∙ ap (λ (x : List ℕ). round_by t x k) q
 
 pub last_round_of : (t k : List ℕ) {s a b : List ℕ} → s ≡ last_round_by t a k → a ≡ b → s ≡ last_round_by t b k
 last_round_of t k p q = p ∙ ap (λ (x : List ℕ). last_round_by t x k) q
+
+-- what a column's code needs; what the code of all rounds needs
+pub ruleset by_column = (bytes_xor_of, bytes_rotate_8, bytes_rotate_16, bytes_rotate_24)
+
+pub ruleset by_round = (xor_key_words, round_of, last_round_of)

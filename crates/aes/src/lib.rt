@@ -25,6 +25,7 @@ fn entry(table: &[u8; 1024], byte: u8) -> u32
 }
 
 // A column of a full round before its key, from the four old columns from its own on.
+#[tactic(auto, unfolding(crate::specs::ByTable::column_by), using(crate::proofs::FastCipher::by_column))]
 fn column(table: &[u8; 1024], word0: u32, word1: u32, word2: u32, word3: u32) -> u32
     ensures { word_bytes result
         ≡ column_by table.now (word0 % 256) (word1 / 256 % 256) (word2 / 65536 % 256) (word3 / 16777216 % 256) }
@@ -55,6 +56,7 @@ fn substituted(table: &[u8; 1024], byte: u8) -> u8
 }
 
 // The same of the last round, which does not mix.
+#[tactic(auto, unfolding(crate::specs::ByTable::last_column_by))]
 fn last_column(table: &[u8; 1024], word0: u32, word1: u32, word2: u32, word3: u32) -> u32
     ensures { word_bytes result
         ≡ last_column_by table.now (word0 % 256) (word1 / 256 % 256) (word2 / 65536 % 256) (word3 / 16777216 % 256) }
@@ -82,6 +84,7 @@ fn last_round(table: &[u8; 1024], state: [u32; 4], round_key: [u8; 16]) -> [u8; 
 
 // The cipher with a lent table, of a block by its words. The rounds are written out: with a loop over `&round_keys[1..10]` a hop MAC takes
 // 2.3 % longer, and three take 2.6 % longer.
+#[tactic(auto, unfolding(crate::specs::ByTable::cipher_by, crate::specs::ByTable::rounds_by), using(crate::proofs::FastCipher::by_round))]
 pub fn encrypt_words(table: &[u8; 1024], round_keys: [[u8; 16]; 11], block: [u32; 4]) -> [u8; 16]
     ensures { result ≡ cipher_by table.now round_keys (state_bytes block) }
 {
@@ -99,12 +102,14 @@ pub fn encrypt_words(table: &[u8; 1024], round_keys: [[u8; 16]; 11], block: [u32
 }
 
 // The cipher with a lent table. With `round_table()` it is AES.
+#[tactic(auto, using(crate::proofs::FastCipher::cipher_words))]
 pub fn encrypt_with(table: &[u8; 1024], round_keys: [[u8; 16]; 11], block: [u8; 16]) -> [u8; 16]
     ensures { result ≡ cipher_by table.now round_keys block }
 {
     encrypt_words(table, round_keys, words(block))
 }
 
+#[tactic(auto, using(crate::proofs::FastCipher::cipher_by_table))]
 pub fn encrypt_block(round_keys: [[u8; 16]; 11], block: [u8; 16]) -> [u8; 16]
     ensures { result ≡ cipher round_keys block }
 {
