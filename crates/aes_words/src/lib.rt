@@ -35,8 +35,8 @@ pub fn unwords(words: [u32; 4]) -> [u8; 16]
     array::from_fn(|i| words[i / 4].to_le_bytes()[i % 4])
 }
 
-// One generic function for this and cmac's `xor_block` is no plainer: they promise different things, and xor over a type parameter
-// has its promise in a trait's ghost member.
+// Two functions, this and cmac's `xor_block`. Tried: `xor<T: Copy + BitXor<Output = T>, const N: usize>`. It would be open, and ask its
+// callers in a `requires` that T has `^`; its closure took three clauses, and what `from_fn` gives at a T stayed open.
 pub fn xor_words(left: [u32; 4], right: [u32; 4]) -> [u32; 4]
     ensures { state_bytes result ≡ xor_block (state_bytes left) (state_bytes right) }
 {
