@@ -27,6 +27,7 @@ fn shift_left(block: &[u8; 16]) -> [u8; 16]
 }
 
 // From L to K1, and from K1 to K2.
+#[tactic(auto, unfolding(crate::specs::Cmac::doubled))]
 pub fn double(block: [u8; 16]) -> [u8; 16]
     ensures { result ≡ doubled block }
 {
@@ -65,6 +66,7 @@ fn blocks_before_last(len: usize) -> usize
 }
 
 // M_last.
+#[tactic(auto, using(crate::proofs::CmacLaws::last_complete, crate::proofs::CmacLaws::last_padded))]
 fn last_block(k1: [u8; 16], message: &[u8]) -> [u8; 16]
     ensures { result ≡ last_block k1 message.now }
 {
@@ -75,7 +77,8 @@ fn last_block(k1: [u8; 16], message: &[u8]) -> [u8; 16]
     }
 }
 
-// What the MACs under one key share: a round table and the round keys, both lent, and K1.
+// What the MACs under one key share: a round table and the round keys, both lent, and K1. Here and above, each function through which the
+// hop MAC of a step goes is put in line: where a call takes the schedule, the compiler copies the round keys by `memcpy` first.
 #[derive(Clone, Copy)]
 pub struct KeySchedule<'a> {
     pub table: &'a [u8; 1024],
@@ -106,6 +109,7 @@ impl<'a> KeySchedule<'a> {
     }
 
     // X after the message's first `count` blocks.
+    #[tactic(auto, unfolding(crate::specs::Cmac::chained), using(crate::proofs::Blocks::block_in_turn))]
     fn chain(self, message: &[u8], count: usize) -> [u8; 16]
         requires { 16 * count ≤ length message.now }
         ensures { result ≡ chained (cipher_by self.entry.table.now self.entry.round_keys.now) message.now count }
@@ -118,6 +122,7 @@ impl<'a> KeySchedule<'a> {
         state
     }
 
+    #[tactic(auto, unfolding(crate::specs::Cmac::mac_with))]
     pub fn aes_cmac(self, message: &[u8]) -> [u8; 16]
         ensures { result ≡ mac_with (cipher_by self.entry.table.now self.entry.round_keys.now) self.entry.k1 message.now }
     {
@@ -126,6 +131,8 @@ impl<'a> KeySchedule<'a> {
     }
 
     // The same for a message of one block. By words: a block that was put together byte by byte is slow to read back.
+    #[tactic(auto, using(crate::proofs::CmacLaws::one_block, aes_words::proofs::WordBytes::xor_words))]
+    #[inline(always)]
     pub fn aes_cmac_block(self, block: [u8; 16]) -> [u8; 16]
         ensures { result ≡ mac_with (cipher_by self.entry.table.now self.entry.round_keys.now) self.entry.k1 block }
     {
@@ -137,6 +144,7 @@ impl<'a> KeySchedule<'a> {
     }
 }
 
+#[tactic(auto, using(crate::proofs::CmacLaws::cmac_from_schedule))]
 pub fn aes_cmac(key: [u8; 16], message: &[u8]) -> [u8; 16]
     ensures { result ≡ aes_cmac key message.now }
 {
@@ -146,6 +154,7 @@ pub fn aes_cmac(key: [u8; 16], message: &[u8]) -> [u8; 16]
 }
 
 // The same for a message of one block.
+#[tactic(auto, using(crate::proofs::CmacLaws::cmac_from_schedule))]
 pub fn aes_cmac_block(key: [u8; 16], block: [u8; 16]) -> [u8; 16]
     ensures { result ≡ aes_cmac key block }
 {

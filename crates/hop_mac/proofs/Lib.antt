@@ -1,1 +1,2 @@
 pub mod HopMac
+pub mod Numbers

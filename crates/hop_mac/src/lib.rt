@@ -16,6 +16,7 @@ use cmac::KeySchedule;
 pub type ForwardingKey = [u8; 16];
 
 // Here and below the parameters are the Rust's, one by one and in its order.
+#[tactic(auto, unfolding(crate::specs::Mac::mac_input), using(crate::proofs::Numbers::be16_bytes, crate::proofs::Numbers::be32_bytes))]
 fn mac_input_data(
     mac_chain_beta: u16,
     timestamp: u32,
@@ -56,6 +57,7 @@ fn first_six(mac: [u8; 16]) -> [u8; 6]
     [mac[0], mac[1], mac[2], mac[3], mac[4], mac[5]]
 }
 
+#[tactic(auto, unfolding(crate::specs::Mac::hop_mac, crate::specs::Mac::full_hop_mac))]
 pub fn calculate_hop_mac(
     mac_chain_beta: u16,
     timestamp: u32,
@@ -77,6 +79,7 @@ pub fn calculate_hop_mac(
 }
 
 // The same from a schedule that was made before, for several MACs under one key.
+#[inline(always)]
 pub fn calculate_hop_mac_with(
     schedule: KeySchedule<'_>,
     mac_chain_beta: u16,
@@ -99,6 +102,7 @@ pub fn calculate_hop_mac_with(
 }
 
 // The next accumulator of the MAC chaining.
+#[tactic(auto, unfolding(crate::specs::Mac::mac_beta_step))]
 pub fn mac_beta_step(accumulator: u16, hop_mac: [u8; 6]) -> u16
     ensures { result ≡ mac_beta_step accumulator hop_mac }
 {

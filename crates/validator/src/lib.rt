@@ -43,6 +43,7 @@ fn arrives(interface: u16, found: u16) -> bool
 // Here and below a hop field and its info field are two parts of the path, handed on as they are: no view is copied.
 
 // The MAC that a hop should have, as a number.
+#[inline(always)]
 pub fn expected_mac(schedule: KeySchedule<'_>, hop: &[u8], info: &[u8], segment_id: u16) -> u64
     ensures { result ≡ right_mac (schedule_mac schedule.entry.table.now schedule.entry.round_keys.now schedule.entry.k1) hop.now info.now segment_id }
 {
@@ -95,6 +96,7 @@ impl StandardValidator {
 
     // Questions 9 to 11 at ingress, 19, 10 and 11 at egress: those that ask for no MAC.
     #[tactic(auto, unfolding(questions::specs::Questions::asks))]
+    #[inline(always)]
     pub fn validate_hop(self, hop_index: u8, hop: &[u8], info: &[u8]) -> Validation
         ensures { result ≡ first_no (field_questions self hop_index hop.now info.now) }
     {
@@ -113,6 +115,7 @@ impl StandardValidator {
 
 // Question 12, wherever MACs are checked.
 #[tactic(auto, unfolding(questions::specs::Questions::asks))]
+#[inline(always)]
 pub fn validate_mac(
     schedule: KeySchedule<'_>,
     hop_index: u8,
