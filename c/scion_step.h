@@ -11,7 +11,7 @@
  * - `ids` is aligned as a uint16_t is.
  *
  * A call is thread-safe: it has no state. It allocates nothing, makes no system call and leaves errno alone. Of the C
- * library it asks for memset and memcpy alone, which gcc and clang ask of a freestanding environment too. So calls
+ * library it asks for memset alone, which gcc and clang ask of a freestanding environment too. So calls
  * may run on many threads at a time, and in signal handlers, as long as none writes what another one is given. A call
  * takes at most SCION_STEP_STACK bytes of stack.
  *
@@ -59,7 +59,7 @@ extern "C" {
 #define SCION_STEP_VERSION 2
 uint32_t scion_step_version_2(void);
 
-/* The most bytes of stack that a call takes. The whole step takes most: 2,856 when it was measured. */
+/* The most bytes of stack that a call takes. The whole step takes most: 2,584 when it was measured. */
 #define SCION_STEP_STACK 4096
 
 /* ---- what a call takes */
