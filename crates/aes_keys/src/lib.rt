@@ -20,6 +20,7 @@ struct SBox<'a> {
 }
 
 impl<'a> SBox<'a> {
+    #[tactic(auto, unfolding(aes_sbox::specs::Field::sub_byte))]
     fn sub_byte(self, byte: u8) -> u8
         ensures { result ≡ sub_byte byte }
     {
@@ -40,6 +41,7 @@ impl<'a> SBox<'a> {
     }
 
     // The next round key. The old words are summed first: the substituted word comes late.
+    #[tactic(auto, using(crate::proofs::NextWords::next_words_law))]
     fn next_words(self, key: [u32; 4], rcon: u8) -> [u32; 4]
         ensures { words_bytes result ≡ next_words (rcon ∷ 0 ∷ 0 ∷ 0 ∷ []) (words_bytes key) }
     {

@@ -45,7 +45,8 @@ fn arrives(interface: u16, found: u16) -> bool
 // The MAC that a hop should have, as a number.
 #[inline(always)]
 pub fn expected_mac(schedule: KeySchedule<'_>, hop: &[u8], info: &[u8], segment_id: u16) -> u64
-    ensures { result ≡ right_mac (schedule_mac schedule.entry.table.now schedule.entry.round_keys.now schedule.entry.k1) hop.now info.now segment_id }
+    ensures { result ≡ right_mac (schedule_mac schedule.entry.table.now schedule.entry.round_keys.now schedule.entry.k1)
+        hop.now info.now segment_id }
 {
     let mac = calculate_hop_mac_with(
         schedule,
@@ -123,8 +124,8 @@ pub fn validate_mac(
     info: &[u8],
     segment_id: u16,
 ) -> Validation
-    ensures { result ≡ first_no (mac_questions (schedule_mac schedule.entry.table.now schedule.entry.round_keys.now schedule.entry.k1) false hop_index
-        hop.now info.now segment_id) }
+    ensures { result ≡ first_no (mac_questions (schedule_mac schedule.entry.table.now schedule.entry.round_keys.now schedule.entry.k1)
+        false hop_index hop.now info.now segment_id) }
 {
     let expected = expected_mac(schedule, hop, info, segment_id);
     let actual = mac_number(fields::mac(hop));
