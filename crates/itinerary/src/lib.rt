@@ -36,6 +36,7 @@ fn arrivals_fit(itinerary: Itinerary<'_>, station_limit: usize) -> bool
 }
 
 // Question 23 but for the clock readings: sound, tables too, the arrivals, and as many stations as wanted.
+#[tactic(auto, using(crate::proofs::Bound::fits_asked))]
 pub fn fits(itinerary: Itinerary<'_>, wanted: u8) -> bool
     ensures { result ≡ itinerary_fits (layout_of itinerary.entry.form) itinerary.entry.bytes.now wanted }
 {
