@@ -1,6 +1,6 @@
 -- The whole step, from its halves: an ingress that goes on.
 -- Assumes nothing.
-use mathlib.Core.Path.{◌≡◌}
+use mathlib.Core.Path.{◌≡◌, refl}
 use mathlib.Core.Bool.{Bool, cond}
 use mathlib.Core.List.{List}
 use Prim.Native.Nat.{ℕ}
@@ -34,3 +34,33 @@ module _ (edition : Edition) (ids states : List ℕ) (mac : MacFunction) (interf
       → step edition ids states mac interface time unchecked path
       ≡ told (leaves Err after) leaving (told (leaves Err after) place (record { answer = Ok (egress_action after); bytes = egress_move edition after }))
   step_by l p = rw (l, p, left, index) (step_goes_on edition ids states mac interface time unchecked path out continued)
+
+-- the answer and the bytes after an ingress that goes on, by what is found of the way out and of the place
+module _ (edition : Edition) (ids states : List ℕ) (mac : MacFunction) (interface time : ℕ) (unchecked : Bool) (path : List ℕ) {out : ℕ}
+    {after : List ℕ} {here : ℕ}
+    (continued : (ingress edition ids states mac (at_ingress interface time unchecked) path).answer ≡ Ok (ContinueEgress out))
+    (left : after ≡ (ingress edition ids states mac (at_ingress interface time unchecked) path).bytes)
+    (index : here ≡ curr_hf path) where
+  by : {leaving place : Result Unit StandardRoutingError}
+      → leaving ≡ first_no (leaving_questions (state_of ids states out) out after)
+      → place ≡ cond (eqb (curr_hf after) here) (Ok tt) (first_no (egress_place edition after))
+      → step edition ids states mac interface time unchecked path
+      ≡ told (leaves Err after) leaving (told (leaves Err after) place (record { answer = Ok (egress_action after); bytes = egress_move edition after }))
+  by = step_by edition ids states mac interface time unchecked path out continued left index
+
+  pub not_left : {why : StandardRoutingError} → Err why ≡ first_no (leaving_questions (state_of ids states out) out after)
+      → (step edition ids states mac interface time unchecked path).bytes ≡ after
+  not_left l = rw (by l refl) refl
+
+  pub not_placed : {why : StandardRoutingError} → Ok tt ≡ first_no (leaving_questions (state_of ids states out) out after)
+      → Err why ≡ cond (eqb (curr_hf after) here) (Ok tt) (first_no (egress_place edition after))
+      → (step edition ids states mac interface time unchecked path).bytes ≡ after
+  not_placed l p = rw (by l p) refl
+
+  pub passed_on : Ok tt ≡ first_no (leaving_questions (state_of ids states out) out after)
+      → Ok tt ≡ cond (eqb (curr_hf after) here) (Ok tt) (first_no (egress_place edition after))
+      → ((step edition ids states mac interface time unchecked path).answer ≡ Ok (egress_action after))
+      × ((step edition ids states mac interface time unchecked path).bytes ≡ egress_move edition after)
+  passed_on l p = rw (by l p) (refl, refl)
+
+pub ruleset steps = (not_left, not_placed, passed_on)

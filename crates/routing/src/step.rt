@@ -109,7 +109,7 @@ fn validate_place(edition: Edition, path: &[u8], hop_index: u8) -> Validation
 
 // ---- the whole step
 
-#[tactic(auto, unfolding(crate::specs::Step::step, crate::specs::Step::step_from))]
+#[tactic(auto, using(crate::proofs::Steps::steps), unfolding(crate::specs::Step::step, crate::specs::Step::step_from))]
 pub fn handle_standard_path(
     edition: Edition,
     interfaces: InterfaceTable<'_>,
