@@ -28,7 +28,7 @@ pub struct Place {
 }
 
 // Questions 1 to 4. Inlined, since what it finds of the path's length spares the readers after it their tests: a step with MACs ignored
-// takes 1,007 instructions in place of 1,185.
+// takes 972 instructions in place of 1,122 (callgrind).
 #[inline]
 #[tactic(auto, unfolding(questions::specs::Questions::asks, standard_path::specs::Header::header_check))]
 pub fn check_before(interfaces: InterfaceTable<'_>, path: &[u8]) -> Validation
@@ -124,7 +124,8 @@ pub fn locate_ingress(edition: Edition, path: &[u8]) -> Result<Place, StandardRo
 }
 
 // Questions 5, 7, 8, 28, 5 for the next hop, and 18. The caller asks what the edition makes of the path, so this function and its contract
-// know no edition. It is no faster so: with the edition asked inside, egress takes 0.4 % fewer instructions, and the step 0.1 % more.
+// know no edition. Speed is no reason: with the edition asked inside, step and egress take 0.1 % more instructions, in the second edition
+// egress 0.7 % fewer.
 #[tactic(auto, unfolding(questions::specs::Questions::asks, standard_path::specs::Header::hops, // and what the segment index is
 standard_path::specs::Header::segment_index, standard_path::specs::Header::segment_among))]
 pub fn locate_egress(path: &[u8], fits: bool, crossing: bool) -> Validation
