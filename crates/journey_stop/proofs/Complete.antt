@@ -3,10 +3,11 @@
 use mathlib.Core.Path.{◌≡◌, refl, ap, sym, ◌∙◌}
 use mathlib.Core.Bool.{true, and-true}
 use mathlib.Core.List.{List}
-use Prim.Native.Nat.{ℕ, ◌≤◌}
+use Prim.Native.Nat.{ℕ, ◌+◌, ◌*◌, ◌≤◌}
 use native.Mathlib.Omega.{arith}
 use borrow.Author.Tests.{leb-true}
-use lib.ListN.{length, drop}
+use lib.ListN.{length, take, drop}
+use lib.Seq.{length-take-le}
 use Rattle.std.specs.Prelude.{Ok, Err, is_ok}
 use Rattle.octets.proofs.Bools.{both, first_of, second_of}
 use Rattle.questions.specs.Questions.{all_yes}
@@ -27,11 +28,21 @@ module _ (path : List ℕ) (whole : header_check path ≡ Ok tt) where
   unfolding all_yes
   there = leb-true _ _ (first_of (fields_there path) _ (second_of (meta_there path) _ header_yes))
 
-  pub fits : header_size path ≤ 796
+  fits : header_size path ≤ 796
   unfolding all_yes header_size infos
   fits =
       let few = leb-true (hops path) 64 (first_of _ true (second_of (fields_there path) _ (second_of (meta_there path) _ header_yes))) in
       omega (arith, few)
+
+  -- so many bytes are taken of it
+  module _ {size count : ℕ} (e : size ≡ 4 + 8 * infos path + 12 * count) (counted : count ≡ hops path) where
+    pub taken : size ≡ length (take size path)
+    unfolding header_size
+    taken = sym (length-take-le size path (rw (e, counted) there))
+
+    pub few : length (take size path) ≤ 796
+    unfolding header_size
+    few = rw (← taken) (rw (e, counted) fits)
 
   -- and the others were answered yes: all were
   pub all_yes_lem : (edition : Edition) (layout : Layout) (itinerary : List ℕ) (earliest latest : ℕ)

@@ -2,7 +2,7 @@
 // copy of the header.
 #![tactic(auto)]
 
-ghost use Rattle.std.specs.Prelude.{◌≡◌, ◌≤◌, true, length, take, Ok};
+ghost use Rattle.std.specs.Prelude.{◌≡◌, ◌≤◌, true, length, take, Some, Ok};
 ghost use Rattle.questions.specs.Questions.{all_yes};
 ghost use Rattle.standard_path.specs.Header.{header_size, header_check};
 ghost use Rattle.records.specs.Layout.{layout_of};
@@ -10,12 +10,11 @@ ghost use Rattle.itinerary.specs.Itinerary.{stations};
 ghost use Rattle.journey_questions.specs.Questions.{questions};
 ghost use Rattle.journey_stops.specs.Stop.{run, stop};
 ghost use Rattle.journey_run.specs.Run.{end_of};
-ghost use Rattle.journey_stop.specs.Inner.{is_stopped, stop_at};
+ghost use Rattle.journey_stop.specs.Inner.{stop_at};
 
-use edition::Edition;
 use journey_run::JourneyEnd;
 use journey_stops::{Reading, Stop, step_number};
-use records::Itinerary;
+use segment_check::journey::Journey;
 use standard_path::view;
 
 // The longest header that 4 lets through.
@@ -23,6 +22,7 @@ const MAX_HEADER_BYTES: usize = 796;
 
 // ---- a run on a copy
 
+#[tactic(auto, using(crate::proofs::Complete::taken, crate::proofs::Complete::few), unfolding(standard_path::specs::Header::header_size))]
 fn header(path: &[u8]) -> &[u8]
     requires { header_check path.now ≡ Ok tt }
     ensures value { result.now ≡ take (header_size path.now) path.now }
@@ -31,66 +31,46 @@ fn header(path: &[u8]) -> &[u8]
     &path[..view::hop_field_offset(path, view::hop_field_count(path))]
 }
 
-fn run_copy(
-    edition: Edition,
-    itinerary: Itinerary<'_>,
-    path: &[u8],
-    reading: u32,
-) -> Option<JourneyEnd>
-    requires { header_check path.now ≡ Ok tt }
-    ensures { result ≡ end_of (run edition
-        (stations (layout_of itinerary.entry.form) itinerary.entry.bytes.now) path.now reading) }
+// The questions let no plan through that has no station: the run ends at one.
+#[tactic(auto, using(crate::proofs::Complete::complete, crate::proofs::Runs::copy_ends, crate::proofs::Runs::copy_ended))]
+fn run_copy(journey: Journey<'_>, reading: u32) -> JourneyEnd
+    requires { let j = journey in all_yes (questions j.edition (layout_of j.itinerary.form) j.itinerary.bytes.now
+        j.earliest j.latest j.path.now) ≡ true }
+    ensures { let j = journey.entry in end_of (run j.edition (stations (layout_of j.itinerary.form) j.itinerary.bytes.now)
+        j.path.now reading) ≡ Some result }
 {
-    let header = header(path);
+    let header = header(journey.path);
     let mut room = [0; MAX_HEADER_BYTES];
     let copy = &mut room[..header.len()];
     copy.copy_from_slice(header);
-    journey_run::run(edition, itinerary, copy, reading)
+    journey_run::run(journey.edition, journey.itinerary, copy, reading).unwrap()
 }
 
 // ---- where it ended
 
-// Where the questions let a call through, a run that is not stopped arrives.
-fn is_stopped(end: Option<JourneyEnd>) -> bool
-    ensures { result ≡ is_stopped end }
-{
-    end.is_some_and(|end| end.answer.is_err())
-}
-
-fn stop_at(reading: Reading, end: Option<JourneyEnd>) -> Stop
+fn stop_at(reading: Reading, end: JourneyEnd) -> Stop
     ensures { result ≡ stop_at reading end }
 {
-    match end {
-        Some(JourneyEnd { station, answer }) => Stop {
-            station,
-            number: step_number(answer),
-            reading,
-        },
-        // Question 23 lets no plan through that has no station.
-        None => Stop {
-            station: 0,
-            number: 0,
-            reading,
-        },
+    Stop {
+        station: end.station,
+        number: step_number(end.answer),
+        reading,
     }
 }
 
 // ---- the two runs
 
-pub(crate) fn stop(
-    edition: Edition,
-    itinerary: Itinerary<'_>,
-    earliest: u32,
-    latest: u32,
-    path: &[u8],
-) -> Stop
-    requires { all_yes (questions edition (layout_of itinerary.form) itinerary.bytes.now earliest latest path.now) ≡ true }
-    ensures { result ≡ stop edition (stations (layout_of itinerary.entry.form) itinerary.entry.bytes.now)
-        earliest latest path.now }
+// Where the questions let a call through, a run that is not refused arrives.
+#[tactic(auto, using(crate::proofs::Runs::stops_early, crate::proofs::Runs::stops_late))]
+pub(crate) fn stop(journey: Journey<'_>) -> Stop
+    requires { let j = journey in all_yes (questions j.edition (layout_of j.itinerary.form) j.itinerary.bytes.now
+        j.earliest j.latest j.path.now) ≡ true }
+    ensures { let j = journey.entry in result ≡ stop j.edition (stations (layout_of j.itinerary.form) j.itinerary.bytes.now)
+        j.earliest j.latest j.path.now }
 {
-    let first = run_copy(edition, itinerary, path, earliest);
-    if is_stopped(first) {
+    let first = run_copy(journey, journey.earliest);
+    if first.answer.is_err() {
         return stop_at(Reading::Earliest, first);
     }
-    stop_at(Reading::Latest, run_copy(edition, itinerary, path, latest))
+    stop_at(Reading::Latest, run_copy(journey, journey.latest))
 }
