@@ -4,7 +4,6 @@ use crate::given::Given;
 use anyhow::Result;
 use exports::{calls, editions};
 use reply::Reply;
-use std::alloc::Global;
 use std::str::FromStr;
 
 #[derive(Clone, Copy)]
@@ -63,8 +62,8 @@ impl<'a> TryFrom<&'a str> for Call<'a> {
 }
 
 impl Call<'_> {
-    pub(crate) fn make(self, alloc: Global, given: &Given, path: &mut [u8]) -> Result<Reply> {
-        let ids = given.ids(alloc)?;
+    pub(crate) fn make(self, given: &Given, path: &mut [u8]) -> Result<Reply> {
+        let ids = given.ids()?;
         let key = given.key()?;
         let interface = (self.first % 0x1_0000) as u16;
         let hop = (self.first % 0x100) as u8;
@@ -74,7 +73,7 @@ impl Call<'_> {
                 editions::$call(
                     self.is_second,
                     &ids,
-                    &given.states,
+                    given.states(),
                     path,
                     interface,
                     self.second,
@@ -93,7 +92,7 @@ impl Call<'_> {
             Name::Journey => editions::scion_check_journey_in_edition(
                 self.is_second,
                 path,
-                &given.itinerary,
+                given.itinerary(),
                 self.first,
                 self.second,
             ),

@@ -2,10 +2,17 @@
 use crate::call::Call;
 use crate::given::Part;
 use anyhow::{Context, Result};
-use std::alloc::Global;
+use arrayvec::ArrayVec;
 use std::error::Error;
 use std::fmt;
 use std::str::{FromStr, Split};
+
+pub(crate) const MAX_LINE_BYTES: usize = 2048;
+
+// What a line spells. A path has no more either.
+pub(crate) const MAX_SPELT_BYTES: usize = MAX_LINE_BYTES / 2;
+
+pub(crate) type Bytes = ArrayVec<u8, MAX_SPELT_BYTES>;
 
 #[derive(Drop)]
 pub(crate) enum Command<'a> {
@@ -13,18 +20,20 @@ pub(crate) enum Command<'a> {
     Fill {
         part: Part,
         size: usize,
-        bytes: Vec<u8>,
+        bytes: Bytes,
     },
     Edit {
         part: Part,
         at: usize,
-        bytes: Vec<u8>,
+        bytes: Bytes,
     },
     Call(Call<'a>),
 }
 
-impl<'a> Command<'a> {
-    pub(crate) fn parse(alloc: Global, line: &'a str) -> Result<Command<'a>> {
+impl<'a> TryFrom<&'a str> for Command<'a> {
+    type Error = anyhow::Error;
+
+    fn try_from(line: &'a str) -> Result<Command<'a>> {
         let (name, rest) = line.split_once(' ').unwrap_or((line, ""));
         let mut words = rest.split(' ');
         match name {
@@ -33,17 +42,17 @@ impl<'a> Command<'a> {
             "edit" => Ok(Command::Edit {
                 part: next(&mut words)?,
                 at: next(&mut words)?,
-                bytes: bytes(alloc, words)?,
+                bytes: bytes(words)?,
             }),
             "record" => Ok(Command::Edit {
                 part: Part::Itinerary,
                 at: 32 * usize::from(next::<u16>(&mut words)?),
-                bytes: bytes(alloc, words)?,
+                bytes: bytes(words)?,
             }),
             _ => Ok(Command::Fill {
                 part: name.parse()?,
                 size: next(&mut words)?,
-                bytes: bytes(alloc, words)?,
+                bytes: bytes(words)?,
             }),
         }
     }
@@ -59,9 +68,17 @@ where
 }
 
 // The bytes that the other words spell.
-fn bytes(alloc: Global, words: Split<'_, char>) -> Result<Vec<u8>> {
-    let digits: String = words.collect(alloc)?;
-    Ok(hex::decode(alloc, digits.as_str())?)
+fn bytes(words: Split<'_, char>) -> Result<Bytes> {
+    let mut bytes = Bytes::new();
+    for word in words {
+        let mut room = [0; MAX_SPELT_BYTES];
+        let spelt = room
+            .get_mut(..word.len() / 2)
+            .context("a word is too long")?;
+        hex::decode_to_slice(word, spelt)?;
+        bytes.try_extend_from_slice(spelt)?;
+    }
+    Ok(bytes)
 }
 
 // A word that names nothing here.

@@ -1,7 +1,7 @@
 // What a call is given.
-use crate::command::UnknownName;
+use crate::command::{Bytes, UnknownName};
 use anyhow::{Context, Result};
-use std::alloc::{AllocError, Global};
+use arrayvec::{ArrayVec, CapacityError};
 use std::str::FromStr;
 
 // What a script names.
@@ -29,28 +29,36 @@ impl FromStr for Part {
     }
 }
 
+// The longest itinerary of a script has 65,568.
+const MAX_PART_BYTES: usize = 0x1_0100;
+
+type PartBytes = ArrayVec<u8, MAX_PART_BYTES>;
+
 // Each as bytes, which `edit` may name anywhere.
 #[derive(Drop)]
 pub(crate) struct Given {
-    pub(crate) path: Vec<u8>,
-    pub(crate) itinerary: Vec<u8>,
-    pub(crate) numbers: Vec<u8>,
-    pub(crate) states: Vec<u8>,
-    pub(crate) key: Vec<u8>,
+    path: PartBytes,
+    itinerary: PartBytes,
+    numbers: PartBytes,
+    states: PartBytes,
+    key: PartBytes,
 }
 
 impl Given {
-    pub(crate) fn new(alloc: Global) -> Result<Given, AllocError> {
-        Ok(Given {
-            path: Vec::new(alloc),
-            itinerary: Vec::new(alloc),
-            numbers: Vec::new(alloc),
-            states: Vec::new(alloc),
-            key: vec![in alloc; 0; 16]?,
-        })
+    // A key of zeros, and nothing else.
+    pub(crate) fn new() -> Result<Given, CapacityError<u8>> {
+        let mut given = Given {
+            path: PartBytes::new(),
+            itinerary: PartBytes::new(),
+            numbers: PartBytes::new(),
+            states: PartBytes::new(),
+            key: PartBytes::new(),
+        };
+        given.fill(Part::Key, 16, &[])?;
+        Ok(given)
     }
 
-    fn part(&mut self, part: Part) -> &mut Vec<u8> {
+    fn part(&mut self, part: Part) -> &mut PartBytes {
         match part {
             Part::Path => &mut self.path,
             Part::Itinerary => &mut self.itinerary,
@@ -61,10 +69,17 @@ impl Given {
     }
 
     // These bytes, then zeros.
-    pub(crate) fn fill(&mut self, part: Part, size: usize, bytes: &[u8]) -> Result<(), AllocError> {
+    pub(crate) fn fill(
+        &mut self,
+        part: Part,
+        size: usize,
+        bytes: &[u8],
+    ) -> Result<(), CapacityError<u8>> {
         let whole = self.part(part);
         whole.clear();
-        whole.resize(size, 0)?;
+        for _ in 0..size {
+            whole.try_push(0)?;
+        }
         self.edit(part, 0, bytes);
         Ok(())
     }
@@ -76,12 +91,25 @@ impl Given {
         }
     }
 
-    pub(crate) fn ids(&self, alloc: Global) -> Result<Vec<u16>, AllocError> {
+    pub(crate) fn path(&self) -> Result<Bytes> {
+        Ok(Bytes::try_from(self.path.as_slice())?)
+    }
+
+    pub(crate) fn itinerary(&self) -> &[u8] {
+        &self.itinerary
+    }
+
+    pub(crate) fn ids(&self) -> Result<ArrayVec<u16, 512>> {
         let (pairs, _) = self.numbers.as_chunks::<2>();
-        pairs
-            .iter()
-            .map(|pair| u16::from_be_bytes(*pair))
-            .collect(alloc)
+        let mut ids = ArrayVec::new();
+        for pair in pairs {
+            ids.try_push(u16::from_be_bytes(*pair))?;
+        }
+        Ok(ids)
+    }
+
+    pub(crate) fn states(&self) -> &[u8] {
+        &self.states
     }
 
     pub(crate) fn key(&self) -> Result<&[u8; 16]> {

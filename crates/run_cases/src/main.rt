@@ -24,45 +24,66 @@ mod given;
 mod print;
 
 use anyhow::{Context, Result};
+use arrayvec::ArrayVec;
 use call::Call;
-use command::Command;
+use command::{Command, MAX_LINE_BYTES};
 use given::Given;
 use print::{Answer, Left};
-use std::alloc::Global;
+use std::io::Read;
+use std::str;
 
-fn run(rt: &impl Print, alloc: Global, given: &mut Given, line: &str) -> Result<()> {
-    match Command::parse(alloc, line)? {
-        Command::Comment => Ok(()),
-        Command::Fill { part, size, bytes } => Ok(given.fill(part, size, &bytes)?),
-        Command::Edit { part, at, bytes } => {
-            given.edit(part, at, &bytes);
-            Ok(())
+// Lines and lists stand in fixed memory: by `Vec` and `String` the allocator's three calls would be assumed for this program.
+type Line = ArrayVec<u8, MAX_LINE_BYTES>;
+
+// The next line without its end, empty where the input ends.
+fn read_line(input: &mut impl Read) -> Result<Line> {
+    let mut line = Line::new();
+    for byte in input.bytes() {
+        let byte = byte?;
+        if byte == b'\n' {
+            break;
         }
-        Command::Call(call) => run_call(rt, alloc, given, call),
+        line.try_push(byte)?;
     }
+    Ok(line)
 }
 
-fn run_call(rt: &impl Print, alloc: Global, given: &Given, call: Call<'_>) -> Result<()> {
-    let mut path = given.path.clone()?;
-    let answer = Answer(call.make(alloc, given, &mut path)?);
+// Whether it goes on: at an empty line, or where the input ends, it's over.
+fn run_next(rt: &impl Print, input: &mut impl Read, given: &mut Given) -> Result<bool> {
+    let line = read_line(input)?;
+    if line.is_empty() {
+        return Ok(false);
+    }
+    match Command::try_from(str::from_utf8(&line)?)? {
+        Command::Comment => {}
+        Command::Fill { part, size, bytes } => given.fill(part, size, &bytes)?,
+        Command::Edit { part, at, bytes } => given.edit(part, at, &bytes),
+        Command::Call(call) => run_call(rt, given, call)?,
+    }
+    Ok(true)
+}
+
+fn run_call(rt: &impl Print, given: &Given, call: Call<'_>) -> Result<()> {
+    let before = given.path()?;
+    let mut after = given.path()?;
+    let answer = Answer(call.make(given, &mut after)?);
     let left = Left {
-        before: &given.path,
-        after: &path,
+        before: &before,
+        after: &after,
     };
     println!(rt; "{}: {answer}, left{left}", call.words)?;
     Ok(())
 }
 
-// At an empty line, or where the input ends, it's over.
 fn main(rt: HostRuntime) -> Result<()> {
-    let alloc = rt.alloc();
-    let mut given = Given::new(alloc)?;
-    for (number, line) in rt.lines(alloc).enumerate() {
-        let line = line?;
-        if line.is_empty() {
+    let mut given = Given::new()?;
+    let mut input = rt.reader();
+    for number in 0..u64::MAX {
+        if !run_next(&rt, &mut input, &mut given).context(format_args!(
+            "line {number}, counted from 0"
+        ))? {
             break;
         }
-        run(&rt, alloc, &mut given, &line).context(format_args!("line {number}, counted from 0"))?;
     }
     Ok(())
 }
