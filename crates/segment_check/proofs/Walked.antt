@@ -24,12 +24,21 @@ use Rattle.segment_check.specs.Segment.{each_below, macs_from, chained_seg_id, h
 use Rattle.segment_check.proofs.Chain.{chain_one_more}
 use Rattle.segment_check.proofs.All.{Asked, asked_none}
 
+-- the place of the MAC that goes in: the first one's, and so many on
+stepped_place : (info : List ℕ) (m : ℕ) {dir : Bool} {first : ℕ} → dir ≡ cons_dir info → first ≡ from_bool (not dir) → 0 < m
+    → first + m - 1 ≡ by_direction (cons_dir info) 0 1 + (m - 1)
+stepped_place info m {dir} e f h = rw (f, ← e) (go dir)
+  where
+    go : (b : Bool) → from_bool (not b) + m - 1 ≡ by_direction b 0 1 + (m - 1)
+    go true = omega arith
+    go false = omega arith
+
 module _ (peer : ℕ → Bool) (info : List ℕ) (hop : ℕ → List ℕ) where
   chained_none : seg_id info ≡ chained_seg_id peer info hop 0
   unfolding chained_seg_id macs_from mac_chaining_beta
   chained_none = refl
 
-  pub chained_more : (m : ℕ) {before next stepped : ℕ} {field : List ℕ} → 0 < m → before ≡ chained_seg_id peer info hop (m - 1)
+  chained_more : (m : ℕ) {before next stepped : ℕ} {field : List ℕ} → 0 < m → before ≡ chained_seg_id peer info hop (m - 1)
       → stepped ≡ by_direction (cons_dir info) 0 1 + (m - 1) → field ≡ hop stepped
       → next ≡ cond (peer stepped) before (mac_beta_step before (mac_field field))
       → next ≡ chained_seg_id peer info hop m
@@ -38,14 +47,18 @@ module _ (peer : ℕ → Bool) (info : List ℕ) (hop : ℕ → List ℕ) where
       let less : suc m - 1 ≡ m = omega arith in
       rw (chain_one_more peer hop info m, ← less, ← e, ← s, ← f) q
 
--- the place of the MAC that goes in: the first one's, and so many on
-pub stepped_place : (info : List ℕ) (m : ℕ) {dir : Bool} {first : ℕ} → dir ≡ cons_dir info → first ≡ from_bool (not dir) → 0 < m
-    → first + m - 1 ≡ by_direction (cons_dir info) 0 1 + (m - 1)
-stepped_place info m {dir} e f h = rw (f, ← e) (go dir)
-  where
-    go : (b : Bool) → from_bool (not b) + m - 1 ≡ by_direction b 0 1 + (m - 1)
-    go true = omega arith
-    go false = omega arith
+  -- by the code's numbers: the hop whose MAC would go in is a peering hop, or it goes in
+  module _ (m : ℕ) {before stepped first : ℕ} {dir : Bool} (more : 1 ≤ m) (e : before ≡ chained_seg_id peer info hop (m - 1))
+      (d : dir ≡ cons_dir info) (f : first ≡ from_bool (not dir)) (s : stepped ≡ first + m - 1) where
+    there : stepped ≡ by_direction (cons_dir info) 0 1 + (m - 1)
+    there = s ∙ stepped_place info m d f (omega arith)
+
+    pub chained_past : peer stepped ≡ true → before ≡ chained_seg_id peer info hop m
+    chained_past skip = chained_more m (omega arith) e there refl (rw skip refl)
+
+    pub chained_on : {next : ℕ} {mac : List ℕ} → peer stepped ≡ false → mac ≡ mac_field (hop stepped) → next ≡ mac_beta_step before mac
+        → next ≡ chained_seg_id peer info hop m
+    chained_on take of-hop q = chained_more m (omega arith) e there refl (rw take (rw of-hop at q))
 
 -- ---- a walk along a segment: `done` of its hops have been asked, and the walk stands at the next one
 

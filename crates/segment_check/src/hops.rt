@@ -7,7 +7,8 @@ use edition::Edition;
 use standard_path::view;
 use std::marker::Model;
 
-// In a method the check does not know that the path's items are below 256.
+// No method, since there the check does not know that the path's items are below 256. The `seg_len` of segments is another function: from
+// place 3 on it gives 0, and this the third length.
 fn length(path: &[u8], place: u8) -> u8
     ensures { (result ≡ count_of path.now place) × (result < 64) }
 {

@@ -29,6 +29,7 @@ fn next_station(itinerary: Itinerary<'_>, station: u32) -> u32
 
 // The SegID that a hop is checked with, from that of the hop before it: that hop's MAC goes in, or, against construction, its own. So
 // the MACs that go in are those from the first on, or from the second.
+#[tactic(auto, using(crate::proofs::Walked::chained_past, crate::proofs::Walked::chained_on))]
 fn chained_segment_id(edition: Edition, segment: PathSegment<'_>, before: u16, hop: HopPlace) -> u16
     requires { before ≡ chained_seg_id (peering_hop_of edition segment.path.now segment.place)
         (info_field segment.path.now segment.place) (hop_of segment.path.now segment.place) (hop - 1) }
@@ -66,7 +67,7 @@ fn segment_fits(journey: Journey<'_>, table: &[u8; 1024], first: u32, place: u8)
     let count = segment.hop_count();
     let mut station = first;
     let mut segment_id = fields::segment_id(info);
-    // A count: SegID and station both go on from one hop to the next.
+    // By number: SegID and station both go on from one hop to the next, and behind the last station, where a chain ends, record 0 is asked.
     for hop in 0..count {
         let hop_place = HopPlace::new(hop);
         segment_id = chained_segment_id(journey.edition, segment, segment_id, hop_place);
