@@ -27,7 +27,8 @@ fn goes_on(answer: StepAnswer) -> bool
     matches!(answer, Ok(AsRoutingAction::ForwardNextHop { .. }))
 }
 
-// The journey from the plan's first station, every clock at `reading`. None, if there is no station to go to.
+// The journey from the plan's first station, every clock at `reading`. None, if there is no station to go to. It takes no `Journey`, whose
+// path is lent to be read: this one is lent to be moved.
 #[tactic(auto, using(crate::proofs::Running::begins, crate::proofs::Running::goes_further))]
 pub fn run(
     edition: Edition,
