@@ -19,9 +19,10 @@ use standard_path::view;
 
 // ---- the conditions of a pass
 
-#[tactic(auto, unfolding(journey::specs::Check::passes))]
+#[tactic(auto, using(crate::proofs::Verdicts::pass_answers))]
 fn passes(journey: Journey<'_>) -> bool
-    requires { length (stations (layout_of journey.itinerary.form) journey.itinerary.bytes.now) ≡ station_count journey.edition journey.path.now }
+    requires { let j = journey in length (stations (layout_of j.itinerary.form) j.itinerary.bytes.now)
+        ≡ station_count j.edition j.path.now }
     ensures { let j = journey.entry in result ≡ passes j.edition (stations (layout_of j.itinerary.form) j.itinerary.bytes.now)
         j.earliest j.latest j.path.now }
 {
@@ -38,7 +39,7 @@ fn passes(journey: Journey<'_>) -> bool
 // ---- the questions
 
 // In any form of the itinerary.
-#[tactic(auto, using(crate::proofs::Verdicts::check_refused, crate::proofs::Verdicts::check_complete), unfolding(questions::specs::Questions::asks))]
+#[tactic(auto, using(crate::proofs::Verdicts::check_answers), unfolding(questions::specs::Questions::asks))]
 fn check(journey: Journey<'_>) -> Result<Verdict, JourneyError>
     ensures { let j = journey.entry in result ≡ journey_check j.edition (layout_of j.itinerary.form) j.itinerary.bytes.now
         j.earliest j.latest j.path.now }
@@ -61,6 +62,7 @@ fn check(journey: Journey<'_>) -> Result<Verdict, JourneyError>
 }
 
 // The five parameters are what 01 hands over; inside they go together, as a `Journey`.
+#[tactic(auto, using(crate::proofs::Verdicts::answers_demand))]
 pub fn check_journey(
     edition: Edition,
     path: &[u8],

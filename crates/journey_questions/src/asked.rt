@@ -22,7 +22,8 @@ fn station_count(edition: Edition, path: &[u8]) -> u8
 
 pub fn itinerary_fits(journey: Journey<'_>) -> bool
     ensures { let j = journey.entry in result ≡
-        (itinerary_fits (layout_of j.itinerary.form) j.itinerary.bytes.now (station_count j.edition j.path.now) && leb j.earliest j.latest) }
+        (itinerary_fits (layout_of j.itinerary.form) j.itinerary.bytes.now (station_count j.edition j.path.now)
+        && leb j.earliest j.latest) }
 {
     itinerary::fits(
         journey.itinerary,

@@ -53,7 +53,8 @@ fn shared_stations(edition: Edition, path: &[u8], segment: u8) -> u8
 
 // The record of the station that a segment's first hop goes to.
 fn first_station(journey: Journey<'_>, place: u8) -> u32
-    ensures { let j = journey.entry in result ≡ first_record j.edition (layout_of j.itinerary.form) j.itinerary.bytes.now j.path.now place }
+    ensures { let j = journey.entry in result ≡ first_record j.edition (layout_of j.itinerary.form) j.itinerary.bytes.now
+        j.path.now place }
 {
     let Journey {
         edition,
