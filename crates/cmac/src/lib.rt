@@ -77,8 +77,8 @@ fn last_block(k1: [u8; 16], message: &[u8]) -> [u8; 16]
     }
 }
 
-// What the MACs under one key share: a round table and the round keys, both lent, and K1. Here and above, each function through which the
-// hop MAC of a step goes is put in line: where a call takes the schedule, the compiler copies the round keys by `memcpy` first.
+// What the MACs under one key share: a round table and the round keys, both lent, and K1. What it is handed through for the MAC of a step,
+// from `aes_cmac_block` up to validator's `validate_mac`, is `inline(always)`: for a call that takes it the round keys are copied by `memcpy`.
 #[derive(Clone, Copy)]
 pub struct KeySchedule<'a> {
     pub table: &'a [u8; 1024],
