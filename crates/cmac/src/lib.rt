@@ -77,8 +77,8 @@ fn last_block(k1: [u8; 16], message: &[u8]) -> [u8; 16]
     }
 }
 
-// What the MACs under one key share: a round table and the round keys, both lent, and K1. What it is handed through for the MAC of a step,
-// from `aes_cmac_block` up to validator's `validate_mac`, is `inline(always)`: for a call that takes it the round keys are copied by `memcpy`.
+// What the MACs under one key share: a round table and the round keys, both lent, and K1. For a call that takes it the compiler copies the
+// round keys by `memcpy`, so what it is handed through in a step is put in line, from `aes_cmac_block` up to validator's `validate_mac`.
 #[derive(Clone, Copy)]
 pub struct KeySchedule<'a> {
     pub table: &'a [u8; 1024],
