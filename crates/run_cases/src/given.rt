@@ -68,7 +68,7 @@ impl Given {
         }
     }
 
-    // These bytes, then zeros.
+    // These bytes, then zeros, one by one: an `ArrayVec` has no `resize`.
     pub(crate) fn fill(
         &mut self,
         part: Part,
