@@ -109,3 +109,11 @@ pub fn is_allowed_pair(in_link: AsRoutingLinkType, out_link: AsRoutingLinkType) 
         AsRoutingLinkType::LinkToParent => false,
     }
 }
+
+// The same of two numbers of links. From 4 on a number is no link's.
+#[tactic(auto, unfolding(crate::specs::Table::pair_allowed, crate::specs::Table::is_among, crate::specs::Table::link_type))]
+pub fn is_allowed_number_pair(in_link: u8, out_link: u8) -> bool
+    ensures { result ≡ pair_allowed in_link out_link }
+{
+    in_link < 4 && out_link < 4 && is_allowed_pair(link_type(in_link), link_type(out_link))
+}
