@@ -101,7 +101,7 @@ pub extern "C" fn scion_standard_path_egress_in_edition(
 }
 
 #[unsafe(no_mangle)]
-#[tactic(auto, using(crate::proofs::Passed::says_what_travels))]
+#[tactic(auto, using(crate::proofs::Passed::number_says))]
 pub extern "C" fn scion_check_journey_in_edition(
     is_second: bool,
     path: &[u8],
