@@ -50,8 +50,7 @@ pub fn expiration(path: &[u8]) -> Result<u32, HeaderError>
     Ok(path_expiry(path))
 }
 
-// 01's number of a refusal, one view of it, so a function and no `From`; 0, which no refusal has, for a time, since whoever writes it
-// down writes a number in any case.
+// 01's number of a refusal, one view of it, so a function and no `From`; 0, which no refusal has, for a time, as its definition has it.
 pub fn expiration_number(answer: Result<u32, HeaderError>) -> u8
     ensures { result ≡ expiration_number answer }
 {

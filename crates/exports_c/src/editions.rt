@@ -1,4 +1,5 @@
-// The step, its halves and the journey check in an edition of the caller's choice: false is the first, true the second.
+// The step, its halves and the journey check in an edition of the caller's choice: false is the first, true the second. Calls of their
+// own beside those of `calls`, so that a C caller of yesterday goes on as before. Slices and flags stand here for the same reason.
 ghost use Rattle.std.specs.Prelude.{◌≡◌};
 ghost use Rattle.edition.specs.Edition.{edition_of};
 ghost use Rattle.ingress.specs.Ingress.{ingress};

@@ -10,6 +10,7 @@ use edition::Edition;
 use segment_check::journey::Journey;
 use standard_path::view;
 
+// Here and in `segments` a question on the path alone takes the two parts of the journey that it depends on.
 #[tactic(auto, unfolding(standard_path::specs::Header::infos, standard_path::specs::Header::hops))]
 fn station_count(edition: Edition, path: &[u8]) -> u8
     ensures { result ≡ station_count edition path.now }

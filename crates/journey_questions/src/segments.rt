@@ -19,6 +19,7 @@ fn is_long_enough(length: u8) -> bool
     (length == 0) | (2 <= length)
 }
 
+// By name: what is asked of each length is another thing.
 #[tactic(auto, unfolding(crate::specs::Lengths::lengths_fit))]
 fn lengths_fit(path: &[u8]) -> bool
     ensures { result ≡ lengths_fit (seg0_len path.now) (seg1_len path.now) (seg2_len path.now) }

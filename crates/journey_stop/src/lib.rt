@@ -40,6 +40,7 @@ fn run_copy(journey: Journey<'_>, reading: u32) -> JourneyEnd
         j.path.now reading) ≡ Some result }
 {
     let header = header(journey.path);
+    // There is no heap: the room for the longest header.
     let mut room = [0; MAX_HEADER_BYTES];
     let copy = &mut room[..header.len()];
     copy.copy_from_slice(header);

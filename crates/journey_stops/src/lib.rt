@@ -15,7 +15,8 @@ pub enum Reading {
     Latest,
 }
 
-// Where a journey stops: the station, counted from 0, the number of its answer, and what the clocks read.
+// Where a journey stops: the station, counted from 0, the number of its answer, and what the clocks read. A number, since it is what a
+// caller is told: C has no answer of Rattle.
 #[derive(Clone, Copy)]
 pub struct Stop {
     pub station: usize,

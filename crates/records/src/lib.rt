@@ -46,9 +46,10 @@ impl<'a> Itinerary<'a> {
         }
     }
 
-    // ---- any record
+    // ---- any record. A reader takes an index beside the plan: a struct of both would be made anew for each record of a chain
 
-    // The record after this one in its chain, 0 after the last; the first station's for record 0.
+    // The record after this one in its chain, 0 after the last; the first station's for record 0. Here and below an index of 0 stays a
+    // number and is no `None`: it is 01's own, and is compared and followed as one.
     #[tactic(auto, unfolding(crate::specs::Records::next_of))]
     pub fn next(self, index: u32) -> u32
         ensures { result ≡ next_of (layout_of self.entry.form) self.entry.bytes.now index }
@@ -99,7 +100,7 @@ impl<'a> Itinerary<'a> {
         )
     }
 
-    // ---- the records of a chain: the whole of it, or no more of it than a limit
+    // ---- the records of a chain: the whole of it, or no more of it than a limit. The stations' and a table's differ in where they start
 
     // The limit can be greater than the number of records, where the whole of a chain that goes round ends: it is not `take` of the whole.
     fn chain_within(self, first: u32, limit: usize) -> Chain<'a>

@@ -95,6 +95,8 @@ fn action_reply(action: AsRoutingAction) -> Reply
     )
 }
 
+// Here and below an answer's number depends on the call, which a type such as `Result<u32, HeaderError>` does not say: so each has its
+// function, and no `From`. Each kind of error has its own numbers, named here: a trait for them would hide which a call can give.
 #[tactic(auto, unfolding(crate::specs::Reply::step_reply))]
 pub fn step_reply(answer: StepAnswer) -> Reply
     ensures { result ≡ step_reply answer }

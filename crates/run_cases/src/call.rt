@@ -34,7 +34,7 @@ impl FromStr for Name {
     }
 }
 
-// A call with the words of its line.
+// A call with the words of its line, which has the same places for each call.
 #[derive(Clone, Copy)]
 pub(crate) struct Call<'a> {
     pub(crate) words: &'a str,

@@ -101,6 +101,7 @@ impl Given {
 
     pub(crate) fn ids(&self) -> Result<ArrayVec<u16, 512>> {
         let (pairs, _) = self.numbers.as_chunks::<2>();
+        // By `try_push`: there may be too many.
         let mut ids = ArrayVec::new();
         for pair in pairs {
             ids.try_push(u16::from_be_bytes(*pair))?;

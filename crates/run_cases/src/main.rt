@@ -78,6 +78,7 @@ fn run_call(rt: &impl Print, given: &Given, call: Call<'_>) -> Result<()> {
 fn main(rt: HostRuntime) -> Result<()> {
     let mut given = Given::new()?;
     let mut input = rt.reader();
+    // By number, since the library's lines stand on the heap.
     for number in 0..u64::MAX {
         if !run_next(&rt, &mut input, &mut given).context(format_args!(
             "line {number}, counted from 0"
