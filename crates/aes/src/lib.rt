@@ -83,7 +83,7 @@ fn last_round(table: &[u8; 1024], state: [u32; 4], round_key: [u8; 16]) -> [u8; 
 }
 
 // The cipher with a lent table, of a block by its words. The rounds are written out: with a loop over `&round_keys[1..10]` a hop MAC takes
-// 2.3 % longer, and three take 2.6 % longer.
+// 2.3 % longer, and three take 2.6 % longer; they are to be no slower than they were.
 #[tactic(auto, unfolding(crate::specs::ByTable::cipher_by, crate::specs::ByTable::rounds_by), using(crate::proofs::FastCipher::by_round))]
 pub fn encrypt_words(table: &[u8; 1024], round_keys: [[u8; 16]; 11], block: [u32; 4]) -> [u8; 16]
     ensures { result ≡ cipher_by table.now round_keys (state_bytes block) }

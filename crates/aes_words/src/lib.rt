@@ -7,7 +7,7 @@ ghost use Rattle.aes_words.specs.Words.{word_bytes, words_bytes, block_words, st
 
 use std::array;
 
-// Not by `from_le_bytes`: with it three hop MACs take 2.5 % longer.
+// Not by `from_le_bytes`: with it three hop MACs take 2.5 % longer; they are to be no slower than they were.
 #[tactic(auto, using(crate::proofs::WordBytes::bytes_pack))]
 pub fn word(byte0: u8, byte1: u8, byte2: u8, byte3: u8) -> u32
     ensures { word_bytes result ≡ byte0 ∷ byte1 ∷ byte2 ∷ byte3 ∷ [] }

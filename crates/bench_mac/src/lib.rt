@@ -1,4 +1,5 @@
-// The hop MAC for C, which bench/mac.c calls and times.
+// The hop MAC for C, which bench/mac.c calls and times. The calls are C's, so a MAC's numbers go one by one; the first is also exports'
+// `scion_calculate_hop_mac`, and stands here for an archive of its own, with nothing else in it.
 #![tactic(auto)]
 
 ghost use Rattle.std.specs.Prelude.{◌≡◌, [], ◌∷◌};
@@ -31,6 +32,7 @@ pub extern "C" fn bench_hop_mac(
 }
 
 // Three hop MACs under one schedule of their key.
+#[tactic(auto, using(hop_mac::proofs::HopMac::hop_mac_from_schedule))]
 #[unsafe(no_mangle)]
 pub extern "C" fn bench_three_hop_macs(
     first: u16,
@@ -52,30 +54,15 @@ pub extern "C" fn bench_three_hop_macs(
     let table = aes::round_table();
     let round_keys = expand_key(*key);
     let schedule = KeySchedule::new(&table, &round_keys);
-    let a = hop_mac::calculate_hop_mac_with(
-        schedule,
-        first,
-        timestamp,
-        exp_time,
-        cons_ingress,
-        cons_egress,
-    );
-    let b = hop_mac::calculate_hop_mac_with(
-        schedule,
-        second,
-        timestamp,
-        exp_time,
-        cons_ingress,
-        cons_egress,
-    );
-    let c = hop_mac::calculate_hop_mac_with(
-        schedule,
-        third,
-        timestamp,
-        exp_time,
-        cons_ingress,
-        cons_egress,
-    );
-    let all = [a, b, c];
-    *macs = all;
+    let mac = |segment_id| {
+        hop_mac::calculate_hop_mac_with(
+            schedule,
+            segment_id,
+            timestamp,
+            exp_time,
+            cons_ingress,
+            cons_egress,
+        )
+    };
+    *macs = [mac(first), mac(second), mac(third)];
 }

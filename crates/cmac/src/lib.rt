@@ -1,11 +1,10 @@
 // AES-CMAC, RFC 4493, equal to its definition on all inputs.
 #![tactic(auto)]
 
-ghost use Rattle.std.specs.Prelude.{◌≡◌, ◌+◌, ◌-◌, ◌*◌, ◌/◌, ◌%◌, ◌≤◌, length};
+ghost use Rattle.std.specs.Prelude.{◌≡◌, ◌-◌, ◌*◌, ◌≤◌, length};
 ghost use Rattle.aes_words.specs.Block.{xor_block};
 ghost use Rattle.aes.specs.ByTable.{cipher_by};
-ghost use Rattle.aes_keys.specs.KeyExpansion.{round_keys};
-ghost use Rattle.cmac.specs.Cmac.{shift_left, doubled, subkey1, block_count, block_at, padded_byte, padding_at};
+ghost use Rattle.cmac.specs.Cmac.{shift_left, doubled, subkey1, block_count, padded_byte, padding_at};
 ghost use Rattle.cmac.specs.Cmac.{last_block, chained, mac_with, aes_cmac};
 
 use aes::{encrypt_with, encrypt_words, round_table};
@@ -13,6 +12,7 @@ use aes_keys::expand_key;
 use aes_words::{words, xor_words};
 use std::array;
 
+// Not one function with aes_words' `xor_words`: the reason is beside that.
 fn xor_block(left: [u8; 16], right: [u8; 16]) -> [u8; 16]
     ensures { result ≡ xor_block left right }
 {
@@ -87,7 +87,9 @@ pub struct KeySchedule<'a> {
 }
 
 impl<'a> KeySchedule<'a> {
-    // Any round keys may be given. With `round_table()` the cipher is AES.
+    // Any round keys may be given. With `round_table()` the cipher is AES. Who has a key lends the table and the round keys from its own
+    // frame, as `aes_cmac` below: a function can't return a schedule of its own locals, and one that hands it to a closure would have to
+    // say in its contract what the closure answers.
     #[tactic(auto, unfolding(crate::specs::Cmac::subkey1))]
     pub fn new(table: &'a [u8; 1024], round_keys: &'a [[u8; 16]; 11]) -> KeySchedule<'a>
         ensures table { result.table.now ≡ table.now }
@@ -130,7 +132,8 @@ impl<'a> KeySchedule<'a> {
         self.encrypt(xor_block(state, last_block(self.k1, message)))
     }
 
-    // The same for a message of one block. By words: a block that was put together byte by byte is slow to read back.
+    // The same for a message of one block. By words: a block that was put together byte by byte is slow to read back. As
+    // `self.aes_cmac(&block)` a hop MAC takes 0.5 % longer, and three take 1.8 % longer; they are to be no slower than they were.
     #[tactic(auto, using(crate::proofs::CmacLaws::one_block, aes_words::proofs::WordBytes::xor_words))]
     #[inline(always)]
     pub fn aes_cmac_block(self, block: [u8; 16]) -> [u8; 16]
@@ -154,11 +157,8 @@ pub fn aes_cmac(key: [u8; 16], message: &[u8]) -> [u8; 16]
 }
 
 // The same for a message of one block.
-#[tactic(auto, using(crate::proofs::CmacLaws::cmac_from_schedule))]
 pub fn aes_cmac_block(key: [u8; 16], block: [u8; 16]) -> [u8; 16]
     ensures { result ≡ aes_cmac key block }
 {
-    let table = round_table();
-    let round_keys = expand_key(key);
-    KeySchedule::new(&table, &round_keys).aes_cmac_block(block)
+    aes_cmac(key, &block)
 }
