@@ -3,7 +3,7 @@
 
 use aes_keys::expand_key;
 use cmac::KeySchedule;
-use std::io;
+use std::{fmt, io};
 
 // The key of FIPS 197, appendices A.1 and B, and of RFC 4493, section 4.
 const KEY: [u8; 16] = *b"\x2b\x7e\x15\x16\x28\xae\xd2\xa6\xab\xf7\x15\x88\x09\xcf\x4f\x3c";
@@ -23,18 +23,22 @@ const MESSAGE: [u8; 64] = *b"\
 \x30\xc8\x1c\x46\xa3\x5c\xe4\x11\xe5\xfb\xc1\x19\x1a\x0a\x52\xef\
 \xf6\x9f\x24\x45\xdf\x4f\x9b\x17\xad\x2b\x41\x7b\xe6\x6c\x37\x10";
 
-fn put_hex(rt: &impl Print, value: &[u8]) -> io::Result<()> {
-    for byte in value {
-        print!(rt; "{byte:02x}")?;
+// Bytes in hex. Not by the kit's `hex`: its text stands on the heap, or in a slice of twice the length, which is no plainer.
+#[derive(Clone, Copy)]
+struct Hex<'a>(&'a [u8]);
+
+impl fmt::Display for Hex<'_> {
+    fn fmt<W: fmt::Write>(&self, f: &mut fmt::Formatter<W>) -> fmt::Result {
+        for byte in self.0 {
+            write!(f, "{byte:02x}")?;
+        }
+        Ok(())
     }
-    Ok(())
 }
 
 // Writes a line: the label, and the value in hex.
 fn put(rt: &impl Print, label: &str, value: &[u8]) -> io::Result<()> {
-    print!(rt; "{label} ")?;
-    put_hex(rt, value)?;
-    println!(rt; "")
+    println!(rt; "{label} {}", Hex(value))
 }
 
 fn last_round_key(key: [u8; 16]) -> [u8; 16] {
@@ -70,7 +74,7 @@ fn put_rfc_4493(rt: &impl Print) -> io::Result<()> {
     put_mac(rt, "RFC 4493 MAC of 64 bytes", &message)
 }
 
-// A hop MAC by both ways, a line for each.
+// A hop MAC by both ways, a line for each. Its numbers go one by one, as both calls take them.
 fn put_hop_mac(
     rt: &impl Print,
     label: &str,
@@ -100,8 +104,7 @@ fn put_hop_mac(
         cons_ingress,
         cons_egress,
     );
-    print!(rt; "{label}")?;
-    put(rt, " with schedule", &from_schedule)
+    println!(rt; "{label} with schedule {}", Hex(&from_schedule))
 }
 
 // The answers were worked out by hop_macs.py, with the CMAC of Python's package `cryptography`.
@@ -136,10 +139,8 @@ fn put_hop_macs(rt: &impl Print) -> io::Result<()> {
 
 // Writes a line: what the accumulator 1234 becomes after a hop MAC.
 fn put_beta_step(rt: &impl Print, hop_mac: [u8; 6]) -> io::Result<()> {
-    print!(rt; "SegID 1234 after MAC ")?;
-    put_hex(rt, &hop_mac)?;
     let next = hop_mac::mac_beta_step(0x1234, hop_mac);
-    put(rt, "", &next.to_be_bytes())
+    println!(rt; "SegID 1234 after MAC {} {next:04x}", Hex(&hop_mac))
 }
 
 fn put_beta_steps(rt: &impl Print) -> io::Result<()> {
