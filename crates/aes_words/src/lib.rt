@@ -18,17 +18,15 @@ pub fn word(byte0: u8, byte1: u8, byte2: u8, byte3: u8) -> u32
         + u32::from(byte3) * 0x100_0000
 }
 
-// Not by `from_fn`: sixteen places worked out from `i` are no plainer than the places themselves.
 #[tactic(auto, unfolding(crate::specs::Words::words_bytes, crate::specs::Words::block_words))]
 pub fn words(block: [u8; 16]) -> [u32; 4]
     ensures { words_bytes result ≡ block_words block }
 {
-    [
-        word(block[0], block[1], block[2], block[3]),
-        word(block[4], block[5], block[6], block[7]),
-        word(block[8], block[9], block[10], block[11]),
-        word(block[12], block[13], block[14], block[15]),
-    ]
+    let (chunks, _) = block.as_chunks::<4>();
+    array::from_fn(|i| {
+        let [byte0, byte1, byte2, byte3] = chunks[i];
+        word(byte0, byte1, byte2, byte3)
+    })
 }
 
 pub fn unwords(words: [u32; 4]) -> [u8; 16]
