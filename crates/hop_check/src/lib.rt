@@ -10,8 +10,7 @@ ghost use Rattle.hop_check.specs.Inner.{key_mac_by};
 
 use aes_keys::expand_key;
 use cmac::KeySchedule;
-use records::Itinerary;
-use station::lookup;
+use station::Station;
 use validator::{expected_mac, mac_number};
 
 // Here and below, hop field and info field are two parts of the path, handed on, as 01 has it.
@@ -26,28 +25,29 @@ fn mac_fits(table: &[u8; 1024], key: [u8; 16], info: &[u8], hop: &[u8], segment_
     expected == found
 }
 
-#[tactic(auto, unfolding(crate::specs::Hop::arrives_by, station::specs::Station::station_with))]
-pub fn arrives_by(itinerary: Itinerary<'_>, station: u32, info: &[u8], hop: &[u8]) -> bool
-    ensures { result ≡ arrives_by (station_at (layout_of itinerary.entry.form) itinerary.entry.bytes.now station) info.now hop.now }
+#[tactic(auto, unfolding(crate::specs::Hop::arrives_by))]
+pub fn arrives_by(station: Station<'_>, info: &[u8], hop: &[u8]) -> bool
+    ensures { let s = station.entry in result ≡
+        arrives_by (station_at (layout_of s.itinerary.form) s.itinerary.bytes.now s.index) info.now hop.now }
 {
     let ingress = fields::ingress_interface(hop, info);
-    (ingress == 0) | (ingress == itinerary.arrival(station))
+    (ingress == 0) | (ingress == station.arrival())
 }
 
 #[tactic(auto, unfolding(crate::specs::Hop::leaves_by))]
-pub fn leaves_by(itinerary: Itinerary<'_>, station: u32, info: &[u8], hop: &[u8]) -> bool
-    ensures { result ≡ leaves_by (station_at (layout_of itinerary.entry.form) itinerary.entry.bytes.now station) info.now hop.now }
+pub fn leaves_by(station: Station<'_>, info: &[u8], hop: &[u8]) -> bool
+    ensures { let s = station.entry in result ≡
+        leaves_by (station_at (layout_of s.itinerary.form) s.itinerary.bytes.now s.index) info.now hop.now }
 {
-    let listed = lookup(itinerary, station, fields::egress_interface(hop, info));
+    let listed = station.lookup(fields::egress_interface(hop, info));
     listed.is_some_and(interface_table::is_up)
 }
 
-// A hop of a segment, at the station with this record.
-#[tactic(auto, unfolding(crate::specs::Hop::hop_fits))]
+// A hop of a segment, at this station.
+#[tactic(auto, unfolding(crate::specs::Hop::hop_fits, station::specs::Station::station_with))]
 pub fn hop_fits(
     table: &[u8; 1024],
-    itinerary: Itinerary<'_>,
-    station: u32,
+    station: Station<'_>,
     latest: u32,
     info: &[u8],
     hop: &[u8],
@@ -55,12 +55,13 @@ pub fn hop_fits(
     first: bool,
     last: bool,
 ) -> bool
-    ensures { result ≡ hop_fits (key_mac_by table.now (key_of (layout_of itinerary.entry.form) itinerary.entry.bytes.now station))
-        (station_at (layout_of itinerary.entry.form) itinerary.entry.bytes.now station) latest info.now hop.now
+    ensures { let s = station.entry in result ≡
+        hop_fits (key_mac_by table.now (key_of (layout_of s.itinerary.form) s.itinerary.bytes.now s.index))
+        (station_at (layout_of s.itinerary.form) s.itinerary.bytes.now s.index) latest info.now hop.now
         segment_id first last }
 {
     (latest <= fields::expiry_timestamp(hop, info))
-        & mac_fits(table, itinerary.key(station), info, hop, segment_id)
-        & (first | arrives_by(itinerary, station, info, hop))
-        & (last | leaves_by(itinerary, station, info, hop))
+        & mac_fits(table, station.key(), info, hop, segment_id)
+        & (first | arrives_by(station, info, hop))
+        & (last | leaves_by(station, info, hop))
 }

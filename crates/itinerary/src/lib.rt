@@ -9,14 +9,14 @@ ghost use Rattle.itinerary.specs.Inner.{stations_within};
 
 use records::Itinerary;
 use soundness::Limits;
-use station::TABLE_LIMIT;
+use station::{Station, TABLE_LIMIT};
 
 fn are_tables_sound(itinerary: Itinerary<'_>, station_limit: usize) -> bool
     ensures { result ≡ tables_sound (stations_within (layout_of itinerary.entry.form) itinerary.entry.bytes.now station_limit 257) }
 {
     itinerary
         .station_records_within(station_limit)
-        .all(|station| station::is_table_sound(itinerary, station))
+        .all(|index| Station { itinerary, index }.is_table_sound())
 }
 
 fn station_count(itinerary: Itinerary<'_>, station_limit: usize) -> usize

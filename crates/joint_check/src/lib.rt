@@ -11,42 +11,36 @@ ghost use Rattle.joint_check.specs.Inner.{joint_fits_from};
 
 use hop_check::{arrives_by, leaves_by};
 use interface_table::{is_allowed_pair, link_type};
-use records::Itinerary;
 use segment_check::hops::PathSegment;
 use segment_check::journey::Journey;
 use standard_path::view;
-use station::{lookup, station_record};
+use station::{Station, station_record};
 
-// From a hop to the next segment's first, at the station with this record. The fields are parts of the path, handed on, as 01 has it.
+// From a hop to the next segment's first, at this station. The fields are parts of the path, handed on, as 01 has it.
 #[tactic(auto, unfolding(crate::specs::Joint::change_fits))]
 fn change_fits(
-    itinerary: Itinerary<'_>,
-    station: u32,
+    station: Station<'_>,
     info: &[u8],
     hop: &[u8],
     next_info: &[u8],
     next_hop: &[u8],
 ) -> bool
-    ensures { result ≡ change_fits (station_at (layout_of itinerary.entry.form) itinerary.entry.bytes.now station) info.now hop.now
-        next_info.now next_hop.now }
+    ensures { let s = station.entry in result ≡ change_fits (station_at (layout_of s.itinerary.form) s.itinerary.bytes.now s.index)
+        info.now hop.now next_info.now next_hop.now }
 {
-    let Some(into) = lookup(itinerary, station, fields::ingress_interface(hop, info)) else {
+    let Some(into) = station.lookup(fields::ingress_interface(hop, info)) else {
         return false;
     };
-    let Some(out) = lookup(
-        itinerary,
-        station,
-        fields::egress_interface(next_hop, next_info),
-    ) else {
+    let Some(out) = station.lookup(fields::egress_interface(next_hop, next_info)) else {
         return false;
     };
     is_allowed_pair(link_type(into), link_type(out))
 }
 
 // From a segment to the next, whose first hop is at the station with this record.
-fn joint_fits(journey: Journey<'_>, station: u32, place: u8) -> bool
+fn joint_fits(journey: Journey<'_>, first: u32, place: u8) -> bool
     requires { place < 3 }
-    ensures { let j = journey.entry in result ≡ joint_fits_from j.edition (layout_of j.itinerary.form) j.itinerary.bytes.now station
+    ensures { let j = journey.entry in result ≡ joint_fits_from j.edition (layout_of j.itinerary.form) j.itinerary.bytes.now first
         j.path.now place }
 {
     let Journey {
@@ -64,12 +58,19 @@ fn joint_fits(journey: Journey<'_>, station: u32, place: u8) -> bool
     let hop = segment.last_hop();
     let next_info = next.info_field();
     let next_hop = next.first_hop();
-    let arrives = arrives_by(itinerary, station, next_info, next_hop);
+    let station = Station {
+        itinerary,
+        index: first,
+    };
+    let arrives = arrives_by(station, next_info, next_hop);
     if edition::is_peering_path(edition, path) {
-        let here = station_record(itinerary, segment.last_place());
-        return leaves_by(itinerary, here, info, hop) & arrives;
+        let here = Station {
+            itinerary,
+            index: station_record(itinerary, segment.last_place()),
+        };
+        return leaves_by(here, info, hop) & arrives;
     }
-    change_fits(itinerary, station, info, hop, next_info, next_hop) & arrives
+    change_fits(station, info, hop, next_info, next_hop) & arrives
 }
 
 // Each joint, the first hop of each segment at the station with the record given.

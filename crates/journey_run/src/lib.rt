@@ -11,6 +11,7 @@ ghost use Rattle.journey_run.specs.Run.{end_of, left_of};
 use answers::{AsRoutingAction, StepAnswer};
 use edition::Edition;
 use records::Itinerary;
+use station::Station;
 use station_step::step_at;
 
 // Where a journey ended: the station, counted from 0, and what it answered.
@@ -42,8 +43,8 @@ pub fn run(
         (stations (layout_of itinerary.entry.form) itinerary.entry.bytes.now) path.old reading) }
 {
     let mut end = None;
-    for (station, record) in itinerary.station_records().enumerate() {
-        let answer = step_at(edition, itinerary, record, path, reading);
+    for (station, index) in itinerary.station_records().enumerate() {
+        let answer = step_at(edition, Station { itinerary, index }, path, reading);
         end = Some(JourneyEnd { station, answer });
         if !goes_on(answer) {
             break;

@@ -13,6 +13,7 @@ use hop_check::hop_fits;
 use hop_mac::mac_beta_step;
 use records::Itinerary;
 use standard_path::view;
+use station::Station;
 
 // ---- a segment
 
@@ -73,8 +74,10 @@ fn segment_fits(journey: Journey<'_>, table: &[u8; 1024], first: u32, place: u8)
         segment_id = chained_segment_id(journey.edition, segment, segment_id, hop_place);
         if !hop_fits(
             table,
-            journey.itinerary,
-            station,
+            Station {
+                itinerary: journey.itinerary,
+                index: station,
+            },
             journey.latest,
             info,
             segment.hop_field(hop_place),

@@ -23,36 +23,61 @@ pub fn station_record(itinerary: Itinerary<'_>, place: u8) -> u32
     itinerary.station_records().nth(place).unwrap_or(0)
 }
 
-// What the station's table has for an interface number.
-pub fn lookup(itinerary: Itinerary<'_>, station: u32, number: u16) -> Option<u8>
-    ensures { result ≡ state_of (station_at (layout_of itinerary.entry.form) itinerary.entry.bytes.now station).ids
-        (station_at (layout_of itinerary.entry.form) itinerary.entry.bytes.now station).states number }
-{
-    let index = itinerary
-        .table_records(station)
-        .find(|index| itinerary.interface_number(*index) == number)?;
-    Some(itinerary.interface_state(index))
+// A station: the plan that it stands in, and the index of its record there.
+#[derive(Clone, Copy)]
+pub struct Station<'a> {
+    pub itinerary: Itinerary<'a>,
+    pub index: u32,
 }
 
-pub fn is_table_sound(itinerary: Itinerary<'_>, station: u32) -> bool
-    ensures { result ≡ table_sound (station_within (layout_of itinerary.entry.form) itinerary.entry.bytes.now 257 station).ids
-        (station_within (layout_of itinerary.entry.form) itinerary.entry.bytes.now 257 station).states }
-{
-    // One walk: a record is asked with the one before it and with how many there were, so a `try_fold` has the same body. By `nth`,
-    // `is_sorted_by` and `all`, which go along the chain three times, a table of 256 took 1.8 times as long.
-    let mut lowest: u32 = 0;
-    for (entries, index) in itinerary
-        .table_records_within(station, TABLE_LIMIT)
-        .enumerate()
+impl Station<'_> {
+    #[tactic(auto, unfolding(crate::specs::Station::station_with))]
+    pub fn arrival(self) -> u16
+        ensures { let s = self.entry in result ≡ (station_at (layout_of s.itinerary.form) s.itinerary.bytes.now s.index).arrival }
     {
-        let number = u32::from(itinerary.interface_number(index));
-        if entries == MAX_ENTRIES || number < lowest {
-            return false;
-        }
-        if 8 <= itinerary.interface_state(index) {
-            return false;
-        }
-        lowest = number + 1;
+        self.itinerary.arrival(self.index)
     }
-    true
+
+    #[tactic(auto, unfolding(crate::specs::Station::station_with))]
+    pub fn key(self) -> [u8; 16]
+        ensures { let s = self.entry in result ≡ (station_at (layout_of s.itinerary.form) s.itinerary.bytes.now s.index).key }
+    {
+        self.itinerary.key(self.index)
+    }
+
+    // What its table has for an interface number.
+    pub fn lookup(self, number: u16) -> Option<u8>
+        ensures { let s = self.entry in let station = station_at (layout_of s.itinerary.form) s.itinerary.bytes.now s.index in
+            result ≡ state_of station.ids station.states number }
+    {
+        let itinerary = self.itinerary;
+        let index = itinerary
+            .table_records(self.index)
+            .find(|index| itinerary.interface_number(*index) == number)?;
+        Some(itinerary.interface_state(index))
+    }
+
+    pub fn is_table_sound(self) -> bool
+        ensures { let s = self.entry in let station = station_within (layout_of s.itinerary.form) s.itinerary.bytes.now 257 s.index in
+            result ≡ table_sound station.ids station.states }
+    {
+        // One walk: a record is asked with the one before it and with how many there were, so a `try_fold` has the same body. By `nth`,
+        // `is_sorted_by` and `all`, which go along the chain three times, a table of 256 took 1.8 times as long.
+        let itinerary = self.itinerary;
+        let mut lowest: u32 = 0;
+        for (entries, index) in itinerary
+            .table_records_within(self.index, TABLE_LIMIT)
+            .enumerate()
+        {
+            let number = u32::from(itinerary.interface_number(index));
+            if entries == MAX_ENTRIES || number < lowest {
+                return false;
+            }
+            if 8 <= itinerary.interface_state(index) {
+                return false;
+            }
+            lowest = number + 1;
+        }
+        true
+    }
 }

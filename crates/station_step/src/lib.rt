@@ -9,8 +9,8 @@ ghost use Rattle.journey.specs.Journey.{step_at};
 use answers::{StandardRoutingError, StepAnswer};
 use edition::Edition;
 use interface_table::{InterfaceTable, MAX_ENTRIES};
-use records::Itinerary;
 use routing::step::handle_standard_path;
+use station::Station;
 
 // A station's table, copied out of its records. Arrays of a fixed size with a count: there is no heap.
 #[derive(Clone, Copy)]
@@ -24,19 +24,16 @@ struct CopiedTable {
 impl CopiedTable {
     // None of more entries than a sound table has.
     #[tactic(auto, unfolding(station::specs::Station::station_with))]
-    fn new(itinerary: Itinerary<'_>, station: u32) -> Option<CopiedTable>
-        ensures { MatchOption result
-            (256 < length (station_at (layout_of itinerary.entry.form) itinerary.entry.bytes.now station).ids)
-            (λ table.
-            (take table.count table.ids
-            ≡ (station_at (layout_of itinerary.entry.form) itinerary.entry.bytes.now station).ids)
-            × (take table.count table.states
-            ≡ (station_at (layout_of itinerary.entry.form) itinerary.entry.bytes.now station).states)) }
+    fn new(station: Station<'_>) -> Option<CopiedTable>
+        ensures { let s = station.entry in let there = station_at (layout_of s.itinerary.form) s.itinerary.bytes.now s.index in
+            MatchOption result (256 < length there.ids)
+            (λ table. (take table.count table.ids ≡ there.ids) × (take table.count table.states ≡ there.states)) }
     {
+        let itinerary = station.itinerary;
         let mut ids = [0; MAX_ENTRIES];
         let mut states = [0; MAX_ENTRIES];
         let mut count = 0;
-        for record in itinerary.table_records(station) {
+        for record in itinerary.table_records(station.index) {
             if count == MAX_ENTRIES {
                 return None;
             }
@@ -58,25 +55,19 @@ impl CopiedTable {
     }
 }
 
-// The whole step of the station with this record, on a lent path. An unsound table is answered by 1.
-#[tactic(auto, unfolding(journey::specs::Journey::step_at, station::specs::Station::station_with))]
-pub fn step_at(
-    edition: Edition,
-    itinerary: Itinerary<'_>,
-    station: u32,
-    path: &mut [u8],
-    time: u32,
-) -> StepAnswer
-    ensures value { result ≡ (step_at edition (station_at (layout_of itinerary.entry.form) itinerary.entry.bytes.now station)
-        time path.old).answer }
-    ensures path_after { path.new ≡ (step_at edition
-        (station_at (layout_of itinerary.entry.form) itinerary.entry.bytes.now station) time path.old).bytes }
+// The whole step of this station, on a lent path. An unsound table is answered by 1.
+#[tactic(auto, unfolding(journey::specs::Journey::step_at))]
+pub fn step_at(edition: Edition, station: Station<'_>, path: &mut [u8], time: u32) -> StepAnswer
+    ensures value { let s = station.entry in result ≡
+        (step_at edition (station_at (layout_of s.itinerary.form) s.itinerary.bytes.now s.index) time path.old).answer }
+    ensures path_after { let s = station.entry in path.new ≡
+        (step_at edition (station_at (layout_of s.itinerary.form) s.itinerary.bytes.now s.index) time path.old).bytes }
 {
-    let Some(table) = CopiedTable::new(itinerary, station) else {
+    let Some(table) = CopiedTable::new(station) else {
         return Err(StandardRoutingError::UnsoundTable);
     };
-    let arrival = itinerary.arrival(station);
-    let key = itinerary.key(station);
+    let arrival = station.arrival();
+    let key = station.key();
     handle_standard_path(
         edition,
         table.interfaces(),

@@ -6,11 +6,11 @@ use Rattle.station_step.proofs.CopiedTable.new.Given as goal
 
 abbrev pub invariant-loop-record : goal.invariant-loop-record
 invariant-loop-record l =
-    let layout = layout_of l.itinerary.form in
-    let bytes = l.itinerary.bytes.now in
+    let layout = layout_of l.station.itinerary.form in
+    let bytes = l.station.itinerary.bytes.now in
     record {
       can : goal.iterator-loop-record.can_next l.record-iterator;
       ends : goal.iterator-loop-record.is_finite l.record-iterator;
-      numbers : Copying (interface_number_of layout bytes) (table_records layout bytes l.station) (records_left l.record-iterator) l.count l.ids;
-      states : Copying (interface_state_of layout bytes) (table_records layout bytes l.station) (records_left l.record-iterator) l.count l.states;
+      numbers : Copying (interface_number_of layout bytes) (table_records layout bytes l.station.index) (records_left l.record-iterator) l.count l.ids;
+      states : Copying (interface_state_of layout bytes) (table_records layout bytes l.station.index) (records_left l.record-iterator) l.count l.states;
     }

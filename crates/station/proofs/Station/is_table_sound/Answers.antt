@@ -9,17 +9,17 @@ use Rattle.records.specs.Chain.{records_left}
 use Rattle.records.proofs.Walks.{chain_short}
 use Rattle.station.specs.Station.{station_with}
 use Rattle.station.proofs.Walks.{entered_none, entered_all, entered_many, entered_low, entered_state, entered_on}
-use Rattle.station.proofs.is_table_sound.Goals as goal
-use Rattle.station.proofs.is_table_sound.Goals.{then-entries-eq-MAX_ENTRIES-via-then-entries-eq-MAX_ENTRIES, then-entries-eq-MAX_ENTRIES-via-else-entries-eq-MAX_ENTRIES+then-number-lowest}
+use Rattle.station.proofs.Station.is_table_sound.Goals as goal
+use Rattle.station.proofs.Station.is_table_sound.Goals.{then-entries-eq-MAX_ENTRIES-via-then-entries-eq-MAX_ENTRIES, then-entries-eq-MAX_ENTRIES-via-else-entries-eq-MAX_ENTRIES+then-number-lowest}
 
 pub loop-entries-init-derived : goal.loop-entries-init-derived
 loop-entries-init-derived c =
-    let itinerary = c.args.itinerary in
+    let itinerary = c.args.self.itinerary in
     let layout = layout_of itinerary.form in
     let same = c.into_iter-entries-iterator.ensures.into_iter_gives in
     let none = ap enumerate_count same ∙ c.enumerate-entries-items.ensures.count in
     let whole = ap (λ s. length (records_left (enumerate_source s))) same ∙ ap (λ t. length (records_left t)) c.enumerate-entries-items.ensures.source ∙ ap length c.table_records_within.ensures in
-    let short = chain_short layout itinerary.bytes.now 257 (first_interface_of layout itinerary.bytes.now c.args.station) in
+    let short = chain_short layout itinerary.bytes.now 257 (first_interface_of layout itinerary.bytes.now c.args.self.index) in
     ((tt, tt, inl (omega (arith, none, whole, short))), tt)
 
 pub loop-entries-init : goal.loop-entries-init
