@@ -10,7 +10,9 @@ ghost use Rattle.aes.specs.ByTable.{round_table, entry_of, substituted_by, colum
 
 use aes_words::{unwords, word, words, xor_words};
 
-// The table that `encrypt_with` is lent: for each byte its substitution value S as 2 S, S, S, 3 S.
+// The table that `encrypt_with` is lent: for each byte its substitution value S as 2 S, S, S, 3 S. Flat, as a byte string gives it and as
+// `ByTable` reads it: `[[u8; 4]; 256]` would be 256 lists of four to write, and another type and meaning of what contracts up to
+// validator's cite.
 pub fn round_table() -> [u8; 1024]
     ensures { result ≡ round_table }
 {

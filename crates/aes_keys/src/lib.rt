@@ -28,6 +28,8 @@ impl<'a> SBox<'a> {
     }
 
     // SubWord(RotWord(last)).
+    #[tactic(auto, unfolding(crate::specs::KeyExpansion::sub_word, crate::specs::KeyExpansion::rot_word, // and what the bytes are
+    aes_words::specs::Words::word_bytes))]
     fn rot_sub_word(self, last: u32) -> u32
         ensures { word_bytes result ≡ sub_word (rot_word (word_bytes last)) }
     {
@@ -58,7 +60,8 @@ impl<'a> SBox<'a> {
         let rcon = RCON;
         let mut round_keys = [key; 11];
         let mut last = words(key);
-        // By the number of the round, which is the place in both arrays.
+        // By the number of the round, which is the place in both arrays. Tried: `round_keys[1..].iter_mut().zip(&rcon[1..])`: in that loop
+        // the proof has no name for what is written, and what the array ends as stays open.
         for i in 1..11 {
             // Two steps: the borrow checker does not yet cover a call whose result is laid in an array that it is given.
             let next = self.next_words(last, rcon[i]);
