@@ -3,10 +3,11 @@
 
 mod tables;
 
-ghost use Rattle.std.specs.Prelude.{◌≡◌, ◌/◌, ◌%◌};
+ghost use Rattle.std.specs.Prelude.{◌≡◌, ℕ, ◌/◌, ◌%◌, ◌^◌, ◌<◌, List};
+ghost use Rattle.aes_words.specs.Block.{xor_block};
 ghost use Rattle.aes_words.specs.Words.{word_bytes, state_bytes};
 ghost use Rattle.aes.specs.Cipher.{cipher};
-ghost use Rattle.aes.specs.ByTable.{round_table, entry_of, substituted_by, column_by, last_column_by, round_by, last_round_by, cipher_by};
+ghost use Rattle.aes.specs.ByTable.{round_table, entry_of, substituted_by, column_by, last_column_by, columns, round_by, last_round_by, cipher_by};
 
 use aes_words::{unwords, word, words, xor_words};
 
@@ -38,8 +39,18 @@ fn column(table: &[u8; 1024], word0: u32, word1: u32, word2: u32, word3: u32) ->
         ^ entry(table, word3.to_le_bytes()[3]).rotate_left(24)
 }
 
-fn round(table: &[u8; 1024], state: [u32; 4], round_key: [u8; 16]) -> [u32; 4]
-    ensures { state_bytes result ≡ round_by table.now (state_bytes state) round_key }
+// A round by what makes a column: each from the four old columns from its own on, and then the key.
+fn round_with<F: Fn(&[u8; 1024], u32, u32, u32, u32) -> u32>(
+    column: F,
+    table: &[u8; 1024],
+    state: [u32; 4],
+    round_key: [u8; 16],
+) -> [u32; 4]
+    ghost by: { ℕ → ℕ → ℕ → ℕ → List ℕ }
+    requires callable { F.IsAlwaysCallable column }
+    requires answers { (a b c d r : ℕ) → a < 2 ^ 32 → b < 2 ^ 32 → c < 2 ^ 32 → d < 2 ^ 32 → F.post column table a b c d r
+        → word_bytes r ≡ by (a % 256) (b / 256 % 256) (c / 65536 % 256) (d / 16777216 % 256) }
+    ensures { state_bytes result ≡ xor_block (columns by (state_bytes state)) round_key }
 {
     let [word0, word1, word2, word3] = state;
     let columns = [
@@ -51,13 +62,20 @@ fn round(table: &[u8; 1024], state: [u32; 4], round_key: [u8; 16]) -> [u32; 4]
     xor_words(columns, words(round_key))
 }
 
+#[tactic(auto, unfolding(crate::specs::ByTable::round_by))]
+fn round(table: &[u8; 1024], state: [u32; 4], round_key: [u8; 16]) -> [u32; 4]
+    ensures { state_bytes result ≡ round_by table.now (state_bytes state) round_key }
+{
+    round_with(column, table, state, round_key)
+}
+
 fn substituted(table: &[u8; 1024], byte: u8) -> u8
     ensures { result ≡ substituted_by table.now byte }
 {
     table[4 * usize::from(byte) + 1]
 }
 
-// The same of the last round, which does not mix.
+// A column of the last round, which does not mix.
 #[tactic(auto, unfolding(crate::specs::ByTable::last_column_by))]
 fn last_column(table: &[u8; 1024], word0: u32, word1: u32, word2: u32, word3: u32) -> u32
     ensures { word_bytes result
@@ -71,17 +89,11 @@ fn last_column(table: &[u8; 1024], word0: u32, word1: u32, word2: u32, word3: u3
     )
 }
 
+#[tactic(auto, unfolding(crate::specs::ByTable::last_round_by))]
 fn last_round(table: &[u8; 1024], state: [u32; 4], round_key: [u8; 16]) -> [u8; 16]
     ensures { result ≡ last_round_by table.now (state_bytes state) round_key }
 {
-    let [word0, word1, word2, word3] = state;
-    let columns = [
-        last_column(table, word0, word1, word2, word3),
-        last_column(table, word1, word2, word3, word0),
-        last_column(table, word2, word3, word0, word1),
-        last_column(table, word3, word0, word1, word2),
-    ];
-    unwords(xor_words(columns, words(round_key)))
+    unwords(round_with(last_column, table, state, round_key))
 }
 
 // The cipher with a lent table, of a block by its words. The rounds are written out: with a loop over `&round_keys[1..10]` a hop MAC takes
