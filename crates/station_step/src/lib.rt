@@ -7,18 +7,17 @@ ghost use Rattle.station.specs.Station.{station_at};
 ghost use Rattle.journey.specs.Journey.{step_at};
 
 use answers::{StandardRoutingError, StepAnswer};
+use arrayvec::ArrayVec;
 use edition::Edition;
 use interface_table::{InterfaceTable, MAX_ENTRIES};
 use routing::step::handle_standard_path;
 use station::Station;
 
-// A station's table, copied out of its records. Arrays of a fixed size with a count: there is no heap.
-#[derive(Clone, Copy)]
+// A station's table, copied out of its records. Its room is fixed, since there is no heap.
+#[derive(Drop)]
 struct CopiedTable {
-    ids: [u16; MAX_ENTRIES],
-    states: [u8; MAX_ENTRIES],
-    count: usize,
-    ghost few: { count ≤ 256 },
+    ids: ArrayVec<u16, MAX_ENTRIES>,
+    states: ArrayVec<u8, MAX_ENTRIES>,
 }
 
 impl CopiedTable {
@@ -27,30 +26,25 @@ impl CopiedTable {
     fn new(station: Station<'_>) -> Option<CopiedTable>
         ensures { let s = station.entry in let there = station_at (layout_of s.itinerary.form) s.itinerary.bytes.now s.index in
             MatchOption result (256 < length there.ids)
-            (λ table. (take table.count table.ids ≡ there.ids) × (take table.count table.states ≡ there.states)) }
+            (λ table. (table.ids.items ≡ there.ids) × (table.states.items ≡ there.states)) }
     {
         let itinerary = station.itinerary;
-        let mut ids = [0; MAX_ENTRIES];
-        let mut states = [0; MAX_ENTRIES];
-        let mut count = 0;
+        let mut ids = ArrayVec::new();
+        let mut states = ArrayVec::new();
         for record in itinerary.table_records(station.index) {
-            if count == MAX_ENTRIES {
-                return None;
-            }
-            ids[count] = itinerary.interface_number(record);
-            states[count] = itinerary.interface_state(record);
-            count += 1;
+            ids.try_push(itinerary.interface_number(record)).ok()?;
+            states.try_push(itinerary.interface_state(record)).ok()?;
         }
-        Some(CopiedTable { ids, states, count })
+        Some(CopiedTable { ids, states })
     }
 
     fn interfaces(&self) -> InterfaceTable<'_>
-        ensures ids { result.ids.now ≡ take self.now.count self.now.ids }
-        ensures states { result.states.now ≡ take self.now.count self.now.states }
+        ensures ids { result.ids.now ≡ self.now.ids.items }
+        ensures states { result.states.now ≡ self.now.states.items }
     {
         InterfaceTable {
-            ids: &self.ids[..self.count],
-            states: &self.states[..self.count],
+            ids: &self.ids,
+            states: &self.states,
         }
     }
 }
