@@ -91,14 +91,23 @@ pub fn refusal_values(why: StandardRoutingError) -> Values
             expected,
             found,
             cons_dir,
+        }
+        | StandardRoutingError::InvalidEgressInterface {
+            hop_index,
+            expected,
+            found,
+            cons_dir,
         } => Values::of(&[
             u64::from(hop_index),
             u64::from(expected),
             u64::from(found),
             u64::from(cons_dir),
         ]),
-        StandardRoutingError::FutureTimestamp { hop_index } => Values::of(&[u64::from(hop_index)]),
-        StandardRoutingError::SegmentExpired { hop_index } => Values::of(&[u64::from(hop_index)]),
+        StandardRoutingError::FutureTimestamp { hop_index }
+        | StandardRoutingError::SegmentExpired { hop_index }
+        | StandardRoutingError::InvalidSegmentChange { hop_index } => {
+            Values::of(&[u64::from(hop_index)])
+        }
         StandardRoutingError::InvalidMacError {
             hop_index,
             expected,
@@ -112,33 +121,19 @@ pub fn refusal_values(why: StandardRoutingError) -> Values
             hop_index,
             if_id,
             cons_dir,
-        } => Values::of(&[u64::from(hop_index), u64::from(if_id), u64::from(cons_dir)]),
-        StandardRoutingError::UnknownEgressInterface {
+        }
+        | StandardRoutingError::UnknownEgressInterface {
             hop_index,
             if_id,
             cons_dir,
         } => Values::of(&[u64::from(hop_index), u64::from(if_id), u64::from(cons_dir)]),
-        StandardRoutingError::InvalidSegmentChange { hop_index } => Values::of(&[u64::from(
-            hop_index,
-        )]),
         StandardRoutingError::EgressInterfaceDown { hop_index, if_id } => {
             Values::of(&[u64::from(hop_index), u64::from(if_id)])
         }
-        StandardRoutingError::InvalidEgressInterface {
-            hop_index,
-            expected,
-            found,
-            cons_dir,
-        } => Values::of(&[
-            u64::from(hop_index),
-            u64::from(expected),
-            u64::from(found),
-            u64::from(cons_dir),
-        ]),
     }
 }
 
-// ---- what is done with a packet
+// ---- what is done with a packet. Here too a number is one of several views, so a function and no `From`
 
 fn local_number(action: LocalAsRoutingAction) -> u8
     ensures { result ≡ local_number action }

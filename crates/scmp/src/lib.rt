@@ -74,10 +74,14 @@ pub fn to_scmp_error(why: StandardRoutingError) -> Option<ScmpError>
                 interface_id: if_id,
             });
         }
-        StandardRoutingError::InvalidIngressInterface { cons_dir, .. } => interface_code(cons_dir),
-        StandardRoutingError::UnknownIngressInterface { cons_dir, .. } => interface_code(cons_dir),
-        StandardRoutingError::InvalidEgressInterface { cons_dir, .. } => interface_code(!cons_dir),
-        StandardRoutingError::UnknownEgressInterface { cons_dir, .. } => interface_code(!cons_dir),
+        StandardRoutingError::InvalidIngressInterface { cons_dir, .. }
+        | StandardRoutingError::UnknownIngressInterface { cons_dir, .. } => interface_code(
+            cons_dir,
+        ),
+        StandardRoutingError::InvalidEgressInterface { cons_dir, .. }
+        | StandardRoutingError::UnknownEgressInterface { cons_dir, .. } => interface_code(
+            !cons_dir,
+        ),
         StandardRoutingError::FutureTimestamp { .. } => ScmpParameterProblemCode::InvalidPath,
         StandardRoutingError::SegmentExpired { .. } => ScmpParameterProblemCode::PathExpired,
         StandardRoutingError::InvalidMacError { .. } =>
