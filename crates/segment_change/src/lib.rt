@@ -13,6 +13,9 @@ ghost use Rattle.validator.specs.Check.{link_questions, change_questions};
 use answers::{StandardRoutingError, Validation};
 use interface_table::InterfaceTable;
 
+// Here and below the fields are parts of the path, handed on as they are, and beside them the hop's index, which only a refusal names: a
+// struct of them would be filled for one call, and taken apart for each reader of a field.
+
 // Questions 14 to 16 of what the table has for the two interfaces.
 #[tactic(auto, unfolding(questions::specs::Questions::asks))]
 fn validate_links(
@@ -45,7 +48,7 @@ fn validate_links(
     Ok(())
 }
 
-// Questions 13 to 16. The fields are parts of the path, handed on as they are.
+// Questions 13 to 16.
 #[tactic(auto, unfolding(questions::specs::Questions::asks))]
 pub fn validate_segment_change(
     interfaces: InterfaceTable<'_>,
