@@ -77,6 +77,7 @@ pub enum AsRoutingLinkType {
     LinkToPeer,
 }
 
+// A function and no `From`: it reads two bits of any byte, and 01 hands a state on as a byte.
 #[tactic(auto, unfolding(crate::specs::Table::link_type))]
 pub fn link_type(state: u8) -> AsRoutingLinkType
     ensures { link_number result ≡ link_type state }

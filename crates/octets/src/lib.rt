@@ -11,8 +11,8 @@ pub fn byte_at(bytes: &[u8], at: usize) -> u8
     bytes.get(at).copied().unwrap_or(0)
 }
 
-// Layouts give their offsets as `u8`. A function generic over `Into<usize>` would name the byte's place only through that trait's ghost
-// member: no plainer.
+// Layouts give their offsets as `u8`, so that what `u32_at` adds to one doesn't overflow. A function generic over `Into<usize>` would name
+// the byte's place only through that trait's ghost member: no plainer.
 pub fn u8_at(bytes: &[u8], at: u8) -> u8
     ensures { result ≡ get_or bytes.now at 0 }
 {

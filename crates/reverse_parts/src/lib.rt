@@ -15,6 +15,7 @@ use standard_path::view;
 
 // ---- the lengths
 
+// The lengths have six bits, so that no byte below overflows: a type of such lengths would be taken apart in each sum, so a `requires`.
 #[tactic(auto, unfolding(crate::specs::Parts::set_lengths))]
 fn set_lengths(path: &mut [u8], seg0: u8, seg1: u8, seg2: u8)
     requires { (seg0 < 64) × ((seg1 < 64) × (seg2 < 64)) }

@@ -67,7 +67,7 @@ pub fn hop_field_count(path: &[u8]) -> u8
     seg0_len(path) + seg1_len(path) + seg2_len(path)
 }
 
-// Two bits are kept of the index.
+// The setters are two: each has the other's bits to keep. Of this index two bits are kept.
 #[tactic(auto, unfolding(crate::specs::Meta::set_curr_inf))]
 pub fn set_curr_info_field(path: &mut [u8], index: u8)
     ensures { path.new ≡ set_curr_inf path.old index }
@@ -81,7 +81,7 @@ pub fn set_curr_info_field(path: &mut [u8], index: u8)
     );
 }
 
-// Six bits are kept of the index.
+// Of this index six bits are kept.
 #[tactic(auto, unfolding(crate::specs::Meta::set_curr_hf))]
 pub fn set_curr_hop_field(path: &mut [u8], index: u8)
     ensures { path.new ≡ set_curr_hf path.old index }
@@ -97,13 +97,13 @@ pub fn set_curr_hop_field(path: &mut [u8], index: u8)
 
 // ---- parts
 
-// As many bytes from a place on, or those that there are.
+// As many bytes from a place on, or those that there are. By `get(at..)`, with an empty slice in place of none, `move_egress` took 72
+// instructions in place of 55 (callgrind): that slice is another pointer to choose.
 pub fn part(path: &[u8], at: usize, size: usize) -> &[u8]
     ensures { result.now ≡ take size (drop at path.now) }
 {
-    let start = at.min(path.len());
-    let end = start + size.min(path.len() - start);
-    &path[start..end]
+    let rest = &path[at.min(path.len())..];
+    &rest[..size.min(rest.len())]
 }
 
 #[tactic(auto, unfolding(crate::specs::Header::info_field))]
@@ -209,6 +209,7 @@ fn in_segment(index: u8, start: u8, end: u8, hop: u8) -> SegmentIndex
     }
 }
 
+// The lengths have six bits, so that their sums don't overflow: a type of such lengths would be taken apart in each sum, so a `requires`.
 #[tactic(auto, unfolding(crate::specs::Header::segment_among))]
 fn segment_of(seg0: u8, seg1: u8, seg2: u8, hop: u8) -> Option<SegmentIndex>
     requires { (seg0 < 64) × ((seg1 < 64) × (seg2 < 64)) }
