@@ -36,7 +36,7 @@ impl From<bool> for Edition {
 fn has_two_segments(path: &[u8]) -> bool
     ensures { result ≡ two_segments path.now }
 {
-    !(view::seg0_len(path) == 0) & (!(view::seg1_len(path) == 0) & (view::seg2_len(path) == 0))
+    view::seg0_len(path) != 0 && view::seg1_len(path) != 0 && view::seg2_len(path) == 0
 }
 
 fn is_peering(path: &[u8], info: u8) -> bool
@@ -49,7 +49,7 @@ fn is_peering(path: &[u8], info: u8) -> bool
 fn has_peering_form(path: &[u8]) -> bool
     ensures { result ≡ peering_form path.now }
 {
-    has_two_segments(path) & (is_peering(path, 0) & is_peering(path, 1))
+    has_two_segments(path) && is_peering(path, 0) && is_peering(path, 1)
 }
 
 // In the first edition no path is one.
@@ -89,14 +89,14 @@ pub fn is_peering_hop(edition: Edition, path: &[u8], hop: u8) -> bool
 fn is_flagged(path: &[u8], info: u8) -> bool
     ensures { result ≡ flagged path.now info }
 {
-    (info < view::info_field_count(path)) & is_peering(path, info)
+    info < view::info_field_count(path) && is_peering(path, info)
 }
 
 #[tactic(auto, unfolding(crate::specs::Edition::peering_placed))]
 fn is_peering_placed(path: &[u8]) -> bool
     ensures { result ≡ peering_placed path.now }
 {
-    has_peering_form(path) | !(is_flagged(path, 0) | (is_flagged(path, 1) | is_flagged(path, 2)))
+    has_peering_form(path) || !(0..3).any(|info| is_flagged(path, info))
 }
 
 // Its rule; the first edition has none.

@@ -59,7 +59,7 @@ fn is_stepped_direction(at_ingress: bool, cons_dir: bool) -> bool
 fn takes_step(edition: Edition, path: &[u8], at_ingress: bool, cons_dir: bool) -> bool
     ensures { result ≡ takes_step edition path.now at_ingress cons_dir }
 {
-    !place::is_peering_hop(edition, path) & is_stepped_direction(at_ingress, cons_dir)
+    !place::is_peering_hop(edition, path) && is_stepped_direction(at_ingress, cons_dir)
 }
 
 // The SegID that the current hop is checked with at ingress: a packet from outside may take a beta step.
@@ -67,7 +67,7 @@ pub fn ingress_segment_id(edition: Edition, path: &[u8], interface: u16) -> u16
     ensures { result ≡ ingress_seg_id edition path.now interface }
 {
     let info = view::curr_info_field(path);
-    if (interface != 0) & takes_step(edition, path, true, fields::cons_dir(info)) {
+    if interface != 0 && takes_step(edition, path, true, fields::cons_dir(info)) {
         return stepped_segment_id(view::curr_hop_field(path), info);
     }
     fields::segment_id(info)
