@@ -39,6 +39,9 @@ fn egress_action(hop: &[u8], info: &[u8]) -> AsRoutingAction
     }
 }
 
+// Here and below edition, table, key and `at` are no struct: a signature has those that the function depends on. These checks ask no
+// edition and no table, the move no key.
+
 // The answer, from the path as it came.
 #[tactic(auto, using(place::proofs::Places::asked_no, place::proofs::Places::asked_yes))]
 fn decide_egress(forwarding_key: &ForwardingKey, at: StandardValidator, path: &[u8]) -> StepAnswer
@@ -68,7 +71,7 @@ fn egress_here(
 }
 
 // The egress half, with a validator.
-#[tactic(auto, unfolding(crate::specs::Egress::egress), using(place::proofs::Places::asked_yes, place::proofs::Places::placed_by))]
+#[tactic(auto, unfolding(crate::specs::Egress::egress), using(place::proofs::Places::asked_yes))]
 pub fn advance_egress_with_validator(
     edition: Edition,
     interfaces: InterfaceTable<'_>,
@@ -82,9 +85,7 @@ pub fn advance_egress_with_validator(
         (key_mac forwarding_key.now) at path.old).bytes }
 {
     place::check_before(interfaces, path)?;
-    let fits = edition::peering_fits(edition, path);
-    let crossing = place::crosses(edition, path);
-    place::locate_egress(path, fits, crossing)?;
+    place::check_egress_place(edition, path)?;
     egress_here(edition, forwarding_key, at, path)
 }
 

@@ -102,9 +102,7 @@ fn validate_place(edition: Edition, path: &[u8], hop_index: u8) -> Validation
     if view::curr_hop_field_idx(path) == hop_index {
         return Ok(());
     }
-    let fits = edition::peering_fits(edition, path);
-    let crossing = place::crosses(edition, path);
-    place::locate_egress(path, fits, crossing)
+    place::check_egress_place(edition, path)
 }
 
 // ---- the whole step
@@ -134,15 +132,11 @@ pub fn handle_standard_path(
         as_forwarding_key,
         ignore_macs,
     )?;
-    // A refusal has left by `?`, so what is no way on to egress is an action; `let .. else` takes the egress number out, as 01 has it.
-    let IngressNextAction::ContinueEgress {
-        egress_interface_id,
-    } = next_action
-    else {
-        let IngressNextAction::Complete(action) = next_action else {
-            unreachable!();
-        };
-        return Ok(action);
+    let egress_interface_id = match next_action {
+        IngressNextAction::Complete(action) => return Ok(action),
+        IngressNextAction::ContinueEgress {
+            egress_interface_id,
+        } => egress_interface_id,
     };
     validate_leaving(interfaces, egress_interface_id, path)?;
     validate_place(edition, path, hop_index)?;
