@@ -23,6 +23,9 @@ use segment_change::validate_segment_change;
 use standard_path::view;
 use validator::{StandardValidator, validate_mac};
 
+// Edition, table, key and `at` are no struct: a signature has those that the function depends on. `validate_next` asks no edition and no
+// key, `validate_egress` no edition and no table.
+
 // ---- ingress
 
 // Questions 13 to 16, and 9 to 11 for the next hop.

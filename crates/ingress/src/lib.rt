@@ -64,7 +64,8 @@ fn ingress_action(path: &[u8], interface: u16, place: Place) -> IngressNextActio
     }
 }
 
-// ---- the half
+// ---- the half. Edition, table, key and `at` are no struct: it would be taken apart for the checks and for the move, which depends on no
+// table and no key, and its signature says so
 
 // The answer, from the path as it came.
 #[tactic(auto, using(place::proofs::Places::asked_no, place::proofs::Places::asked_yes))]

@@ -40,8 +40,8 @@ fn arrives(interface: u16, found: u16) -> bool
     interface == 0 || found == 0 || found == interface
 }
 
-// Here and below a hop field and its info field are two parts of the path, handed on as they are, and beside them the hop's index, which only
-// a refusal names: a struct of the three would be filled for each call, and taken apart for each reader of a field.
+// Here and below a hop field and its info field are two parts of the path, handed on as they are, and beside them the hop's index, which
+// only a refusal names: a struct of the three would be filled for each call, and taken apart for each reader of a field.
 
 // The MAC that a hop should have, as a number.
 #[inline(always)]

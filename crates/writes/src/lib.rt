@@ -25,7 +25,8 @@ pub fn set_segment_id(path: &mut [u8], index: u8, value: u16)
     octets::put_byte(path, at + (high + 1), second);
 }
 
-// The flags without the ConsIngress alert, or without the ConsEgress alert.
+// The flags without the ConsIngress alert, or without the ConsEgress alert. `ingress` is a flag: it is
+// the flag C of a segment, or its opposite.
 fn without_alert(flags: u8, ingress: bool) -> u8
     ensures { result ≡ by_direction ingress (without_ingress flags) (without_egress flags) }
 {
