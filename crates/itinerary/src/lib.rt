@@ -11,6 +11,7 @@ use records::Itinerary;
 use soundness::Limits;
 use station::{Station, TABLE_LIMIT};
 
+// Here and below: a walk uses its chain up, so each question makes its own, from plan and limit.
 fn are_tables_sound(itinerary: Itinerary<'_>, station_limit: usize) -> bool
     ensures { result ≡ tables_sound (stations_within (layout_of itinerary.entry.form) itinerary.entry.bytes.now station_limit 257) }
 {

@@ -11,21 +11,21 @@ use crate::journey::Journey;
 use edition::Edition;
 use hop_check::hop_fits;
 use hop_mac::mac_beta_step;
-use records::Itinerary;
 use standard_path::view;
 use station::Station;
 
 // ---- a segment
 
-// The station behind this one. Behind the last it is 0, 01's own for no record: a chain ends there, but a hop is asked of record 0.
+// The record of the station behind this one. Behind the last it is 0, 01's own for no record: a chain ends there, but a hop is asked of
+// record 0.
 #[tactic(auto, unfolding(records::specs::Records::record_after))]
-fn next_station(itinerary: Itinerary<'_>, station: u32) -> u32
-    ensures { result ≡ record_after (layout_of itinerary.entry.form) itinerary.entry.bytes.now station 1 }
+fn next_station(station: Station<'_>) -> u32
+    ensures { let s = station.entry in result ≡ record_after (layout_of s.itinerary.form) s.itinerary.bytes.now s.index 1 }
 {
-    if station == 0 {
+    if station.index == 0 {
         return 0;
     }
-    itinerary.next(station)
+    station.itinerary.next(station.index)
 }
 
 // The SegID that a hop is checked with, from that of the hop before it: that hop's MAC goes in, or, against construction, its own. So
@@ -66,18 +66,19 @@ fn segment_fits(journey: Journey<'_>, table: &[u8; 1024], first: u32, place: u8)
         return false;
     }
     let count = segment.hop_count();
-    let mut station = first;
+    let mut index = first;
     let mut segment_id = fields::segment_id(info);
     // By number: SegID and station both go on from one hop to the next, and behind the last station, where a chain ends, record 0 is asked.
     for hop in 0..count {
         let hop_place = HopPlace::new(hop);
+        let station = Station {
+            itinerary: journey.itinerary,
+            index,
+        };
         segment_id = chained_segment_id(journey.edition, segment, segment_id, hop_place);
         if !hop_fits(
             table,
-            Station {
-                itinerary: journey.itinerary,
-                index: station,
-            },
+            station,
             journey.latest,
             info,
             segment.hop_field(hop_place),
@@ -87,7 +88,7 @@ fn segment_fits(journey: Journey<'_>, table: &[u8; 1024], first: u32, place: u8)
         ) {
             return false;
         }
-        station = next_station(journey.itinerary, station);
+        index = next_station(station);
     }
     true
 }

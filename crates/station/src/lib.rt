@@ -57,6 +57,7 @@ impl Station<'_> {
         Some(itinerary.interface_state(index))
     }
 
+    #[tactic(auto, using(crate::proofs::Walks::entered_on))]
     pub fn is_table_sound(self) -> bool
         ensures { let s = self.entry in let station = station_within (layout_of s.itinerary.form) s.itinerary.bytes.now 257 s.index in
             result ≡ table_sound station.ids station.states }

@@ -26,7 +26,7 @@ loop-hop-preserved c =
     let less : c.loop-hop.hop + 1 - 1 ≡ c.loop-hop.hop = omega arith in
     record {
       asked = asked_yes walked.asked (omega (arith, c.hop_count-count.ensures.0)) answered (ap not c.if-not-hop_fits.false);
-      reached = record_more _ _ _ _ walked.reached c.next_station-station.ensures;
+      reached = record_more _ _ _ _ walked.reached c.next_station-index.ensures;
       chained = rw less (rw c.new-hop_place.ensures at c.chained_segment_id-segment_id.ensures);
     }
 

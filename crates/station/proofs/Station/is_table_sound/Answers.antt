@@ -8,7 +8,7 @@ use Rattle.records.specs.Records.{first_interface_of}
 use Rattle.records.specs.Chain.{records_left}
 use Rattle.records.proofs.Walks.{chain_short}
 use Rattle.station.specs.Station.{station_with}
-use Rattle.station.proofs.Walks.{entered_none, entered_all, entered_many, entered_low, entered_state, entered_on}
+use Rattle.station.proofs.Walks.{entered_none, entered_all, entered_many, entered_low, entered_state}
 use Rattle.station.proofs.Station.is_table_sound.Goals as goal
 use Rattle.station.proofs.Station.is_table_sound.Goals.{then-entries-eq-MAX_ENTRIES-via-then-entries-eq-MAX_ENTRIES, then-entries-eq-MAX_ENTRIES-via-else-entries-eq-MAX_ENTRIES+then-number-lowest}
 
@@ -43,13 +43,6 @@ unfolding station_with
 returns-then-interface_state-ge8 c =
     entered_state c.loop-entries.invariant c.in-Some.ensures.steps.0 (rw (← c.interface_number.ensures, ← c.from-number.ensures) c.if-number-lowest.false)
     (rw (← c.interface_state.ensures) c.if-interface_state-ge8.true)
-
-pub loop-entries-preserved : goal.loop-entries-preserved
-loop-entries-preserved c =
-    let turn = c.in-Some.ensures.steps in
-    entered_on c.loop-entries.invariant turn.0 (rw (← c.interface_number.ensures, ← c.from-number.ensures) c.if-number-lowest.false)
-    (λ e. c.if-entries-eq-MAX_ENTRIES.false (turn.1 ∙ e)) (rw (← c.interface_state.ensures) (omega (arith, c.if-interface_state-ge8.false)))
-    (c.from-number.ensures ∙ c.interface_number.ensures) turn.2
 
 pub returns : goal.returns
 unfolding station_with
