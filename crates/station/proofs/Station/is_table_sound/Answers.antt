@@ -42,7 +42,7 @@ pub returns-then-interface_state-ge8 : goal.returns-then-interface_state-ge8
 unfolding station_with
 returns-then-interface_state-ge8 c =
     entered_state c.loop-entries.invariant c.in-Some.ensures.steps.0 (rw (← c.interface_number.ensures, ← c.from-number.ensures) c.if-number-lowest.false)
-    (rw (← c.interface_state.ensures) c.if-interface_state-ge8.true)
+    (rw (← c.interface_state.ensures) (omega (arith, c.if-interface_state-ge8.true)))
 
 pub returns : goal.returns
 unfolding station_with
