@@ -56,6 +56,7 @@ impl Values {
         ensures { result ≡ values_of (take 4 values.now) }
     {
         Values {
+            // By `as`: it is 4 at most, and a `try_from` would have an error that never comes.
             count: values.len().min(4) as u8,
             places: std::array::from_fn(|i| values.get(i).copied().unwrap_or(0)),
         }

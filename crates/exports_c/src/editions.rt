@@ -1,5 +1,6 @@
 // The step, its halves and the journey check in an edition of the caller's choice: false is the first, true the second. Calls of their
-// own beside those of `calls`, so that a C caller of yesterday goes on as before. Slices and flags stand here for the same reason.
+// own beside those of `calls`, so that a C caller of yesterday goes on as before; slices and flags, as there, since C knows none of
+// Rattle's types.
 ghost use Rattle.std.specs.Prelude.{◌≡◌};
 ghost use Rattle.edition.specs.Edition.{edition_of};
 ghost use Rattle.ingress.specs.Ingress.{ingress};

@@ -7,7 +7,7 @@ use std::error::Error;
 use std::fmt;
 use std::str::{FromStr, Split};
 
-pub(crate) const MAX_LINE_BYTES: usize = 2048;
+pub(crate) const MAX_LINE_BYTES: usize = 4096;
 
 // What a line spells. A path has no more either.
 pub(crate) const MAX_SPELT_BYTES: usize = MAX_LINE_BYTES / 2;

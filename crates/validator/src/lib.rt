@@ -96,7 +96,8 @@ impl StandardValidator {
         }
     }
 
-    // Questions 9 to 11 at ingress, 19, 10 and 11 at egress: those that ask for no MAC.
+    // Questions 9 to 11 at ingress, 19, 10 and 11 at egress: those that ask for no MAC. In line: called, it took 54 instructions, 43 before
+    // its answer was a `Result` (callgrind).
     #[tactic(auto, unfolding(questions::specs::Questions::asks))]
     #[inline(always)]
     pub fn validate_hop(self, hop_index: u8, hop: &[u8], info: &[u8]) -> Validation
