@@ -59,7 +59,7 @@ extern "C" {
 #define SCION_STEP_VERSION 2
 uint32_t scion_step_version_2(void);
 
-/* The most bytes of stack that a call takes. The whole step takes most: 2,584 when it was measured. */
+/* The most bytes of stack that a call takes. The whole step takes most: 2,568 when it was measured. */
 #define SCION_STEP_STACK 4096
 
 /* ---- what a call takes */
