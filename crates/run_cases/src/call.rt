@@ -65,8 +65,8 @@ impl Call<'_> {
     pub(crate) fn make(self, given: &Given, path: &mut [u8]) -> Result<Reply> {
         let ids = given.ids()?;
         let key = given.key()?;
-        // A script's first number is a time, an interface or a hop, as the call has it: its low bits are read, so that no call fails by what
-        // another would make of it.
+        // A script's first number is a time, an interface or a hop, as the call has it: its low bits are read, so that no call fails by
+        // what another would make of it.
         let interface = (self.first % 0x1_0000) as u16;
         let hop = (self.first % 0x100) as u8;
         // The three take the same. A function for C is no `impl Fn`, so a macro has it once.
