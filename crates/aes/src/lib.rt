@@ -7,8 +7,7 @@ ghost use Rattle.std.specs.Prelude.{◌≡◌, ℕ, ◌/◌, ◌%◌, ◌^◌, �
 ghost use Rattle.aes_words.specs.Block.{xor_block};
 ghost use Rattle.aes_words.specs.Words.{word_bytes, state_bytes};
 ghost use Rattle.aes.specs.Cipher.{cipher};
-ghost use Rattle.aes.specs.ByTable.{round_table, entry_of, substituted_by, column_by, last_column_by, columns};
-ghost use Rattle.aes.specs.ByTable.{round_by, last_round_by, cipher_by};
+ghost use Rattle.aes.specs.ByTable.{round_table, entry_of, substituted_by, column_by, last_column_by, columns, round_by, last_round_by, cipher_by};
 
 use aes_words::{unwords, word, words, xor_words};
 
