@@ -1,10 +1,8 @@
 // The exported calls.
-use crate::command::{UnknownName, next};
-use crate::given::Given;
-use anyhow::Result;
+use crate::command::{number, words_from};
+use crate::given::{Given, MAX_IDS};
 use exports::{calls, editions};
 use reply::Reply;
-use std::str::FromStr;
 
 #[derive(Clone, Copy)]
 enum Name {
@@ -17,19 +15,17 @@ enum Name {
     Journey,
 }
 
-impl FromStr for Name {
-    type Err = UnknownName;
-
-    fn from_str(name: &str) -> Result<Name, UnknownName> {
-        match name {
-            "step" => Ok(Name::Step),
-            "ingress" => Ok(Name::Ingress),
-            "egress" => Ok(Name::Egress),
-            "reverse" => Ok(Name::Reverse),
-            "expiration" => Ok(Name::Expiration),
-            "index" => Ok(Name::Index),
-            "journey" => Ok(Name::Journey),
-            _ => Err(UnknownName),
+// By the third letter of its name.
+impl From<u8> for Name {
+    fn from(letter: u8) -> Name {
+        match letter {
+            b'e' => Name::Step,
+            b'g' => Name::Ingress,
+            b'r' => Name::Egress,
+            b'v' => Name::Reverse,
+            b'p' => Name::Expiration,
+            b'd' => Name::Index,
+            _ => Name::Journey,
         }
     }
 }
@@ -37,7 +33,7 @@ impl FromStr for Name {
 // A call with the words of its line, which has the same places for each call.
 #[derive(Clone, Copy)]
 pub(crate) struct Call<'a> {
-    pub(crate) words: &'a str,
+    pub(crate) words: &'a [u8],
     name: Name,
     is_second: bool,
     first: u32,
@@ -45,46 +41,43 @@ pub(crate) struct Call<'a> {
     ignore_macs: bool,
 }
 
-impl<'a> TryFrom<&'a str> for Call<'a> {
-    type Error = anyhow::Error;
-
-    fn try_from(words: &'a str) -> Result<Call<'a>> {
-        let mut parts = words.split(' ');
-        Ok(Call {
+impl<'a> From<&'a [u8]> for Call<'a> {
+    fn from(words: &'a [u8]) -> Call<'a> {
+        Call {
             words,
-            name: next(&mut parts)?,
-            is_second: next::<u8>(&mut parts)? == 2,
-            first: next(&mut parts)?,
-            second: next(&mut parts)?,
-            ignore_macs: next::<u8>(&mut parts)? == 1,
-        })
+            name: Name::from(octets::byte_at(words, 2)),
+            is_second: number(words_from(words, 1)) == 2,
+            first: number(words_from(words, 2)),
+            second: number(words_from(words, 3)),
+            ignore_macs: number(words_from(words, 4)) == 1,
+        }
     }
 }
 
 impl Call<'_> {
-    pub(crate) fn make(self, given: &Given, path: &mut [u8]) -> Result<Reply> {
-        let ids = given.ids()?;
-        let key = given.key()?;
-        // A script's first number is a time, an interface or a hop, as the call has it: its low bits are read, so that no call fails by
-        // what another would make of it.
+    pub(crate) fn make(self, given: &Given, path: &mut [u8]) -> Reply {
+        // A script's first number is a time, an interface or a hop, as the call has it, and its low bits are read.
         let interface = (self.first % 0x1_0000) as u16;
         let hop = (self.first % 0x100) as u8;
+        let mut ids = [0; MAX_IDS];
+        given.copy_ids(&mut ids);
+        let key = given.key();
         // The three take the same. A function for C is no `impl Fn`, so a macro has it once.
         macro_rules! on_table {
             ($call:ident) => {
                 editions::$call(
                     self.is_second,
-                    &ids,
+                    &ids[..given.id_count()],
                     given.states(),
                     path,
                     interface,
                     self.second,
-                    key,
+                    &key,
                     self.ignore_macs,
                 )
             };
         }
-        Ok(match self.name {
+        match self.name {
             Name::Step => on_table!(scion_handle_standard_path_in_edition),
             Name::Ingress => on_table!(scion_standard_path_ingress_in_edition),
             Name::Egress => on_table!(scion_standard_path_egress_in_edition),
@@ -98,6 +91,6 @@ impl Call<'_> {
                 self.first,
                 self.second,
             ),
-        })
+        }
     }
 }

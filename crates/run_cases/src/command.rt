@@ -1,94 +1,76 @@
-// The lines of a script.
+// The lines of a script. A line always means something: what is no number is 0, what is no hex digit is passed over, a name counts by
+// its first letter, or by its third where it is a call's.
 use crate::call::Call;
 use crate::given::Part;
-use anyhow::{Context, Result};
-use arrayvec::ArrayVec;
-use std::error::Error;
-use std::fmt;
-use std::str::{FromStr, Split};
 
-pub(crate) const MAX_LINE_BYTES: usize = 4096;
-
-// What a line spells. A path has no more either.
-pub(crate) const MAX_SPELT_BYTES: usize = MAX_LINE_BYTES / 2;
-
-pub(crate) type Bytes = ArrayVec<u8, MAX_SPELT_BYTES>;
-
-#[derive(Drop)]
+#[derive(Clone, Copy)]
 pub(crate) enum Command<'a> {
     Comment,
     Fill {
         part: Part,
-        size: usize,
-        bytes: Bytes,
+        size: u32,
+        digits: &'a [u8],
     },
     Edit {
-        part: Part,
-        at: usize,
-        bytes: Bytes,
+        at: u32,
+        digits: &'a [u8],
     },
     Call(Call<'a>),
 }
 
-impl<'a> TryFrom<&'a str> for Command<'a> {
-    type Error = anyhow::Error;
-
-    fn try_from(line: &'a str) -> Result<Command<'a>> {
-        let (name, rest) = line.split_once(' ').unwrap_or((line, ""));
-        let mut words = rest.split(' ');
+impl<'a> From<&'a [u8]> for Command<'a> {
+    fn from(line: &'a [u8]) -> Command<'a> {
+        let name = first(line);
         match name {
-            "#" => Ok(Command::Comment),
-            "call" => Ok(Command::Call(Call::try_from(rest)?)),
-            "edit" => Ok(Command::Edit {
-                part: next(&mut words)?,
-                at: next(&mut words)?,
-                bytes: bytes(words)?,
-            }),
-            "record" => Ok(Command::Edit {
-                part: Part::Itinerary,
-                at: 32 * usize::from(next::<u16>(&mut words)?),
-                bytes: bytes(words)?,
-            }),
-            _ => Ok(Command::Fill {
-                part: name.parse()?,
-                size: next(&mut words)?,
-                bytes: bytes(words)?,
-            }),
+            b'#' => Command::Comment,
+            b'c' => Command::Call(Call::from(words_from(line, 1))),
+            b'e' => Command::Edit {
+                at: Part::from(first(words_from(line, 1)))
+                    .place()
+                    .wrapping_add(number(words_from(line, 2))),
+                digits: words_from(line, 3),
+            },
+            b'r' => Command::Edit {
+                at: Part::Itinerary
+                    .place()
+                    .wrapping_add(32 * (number(words_from(line, 1)) % 2049)),
+                digits: words_from(line, 2),
+            },
+            _ => Command::Fill {
+                part: Part::from(name),
+                size: number(words_from(line, 1)),
+                digits: words_from(line, 2),
+            },
         }
     }
 }
 
-// What the next word says.
-pub(crate) fn next<T: FromStr>(words: &mut Split<'_, char>) -> Result<T>
-where
-    T::Err: Error,
-{
-    let word = words.next().context("a word is missing")?;
-    Ok(word.parse()?)
+fn first(word: &[u8]) -> u8 {
+    octets::byte_at(word, 0)
 }
 
-// The bytes that the other words spell.
-fn bytes(words: Split<'_, char>) -> Result<Bytes> {
-    let mut bytes = Bytes::new();
-    for word in words {
-        let mut room = [0; MAX_SPELT_BYTES];
-        let spelt = room
-            .get_mut(..word.len() / 2)
-            .context("a word is too long")?;
-        hex::decode_to_slice(word, spelt)?;
-        bytes.try_extend_from_slice(spelt)?;
-    }
-    Ok(bytes)
+// A line from this word on, of those that single spaces set apart.
+pub(crate) fn words_from(line: &[u8], index: u8) -> &[u8] {
+    let before = usize::from(index);
+    line.splitn(before + 1, |byte| *byte == b' ')
+        .nth(before)
+        .unwrap_or(&[])
 }
 
-// A word that names nothing here.
-#[derive(Debug, Drop)]
-pub(crate) struct UnknownName;
+// What the first digits spell, its low 32 bits.
+pub(crate) fn number(words: &[u8]) -> u32 {
+    words
+        .iter()
+        .map_while(|digit| char::from(*digit).to_digit(10))
+        .fold(0, |number: u32, digit| {
+            number.wrapping_mul(10).wrapping_add(digit)
+        })
+}
 
-impl fmt::Display for UnknownName {
-    fn fmt<W: fmt::Write>(&self, f: &mut fmt::Formatter<W>) -> fmt::Result {
-        f.write_str("unknown name")
+pub(crate) fn hex_digit(digit: u8) -> Option<u8> {
+    match digit {
+        b'0'..=b'9' => Some(digit - b'0'),
+        b'a'..=b'f' => Some(digit - b'a' + 10),
+        _ => None,
     }
 }
-
-impl Error for UnknownName {}

@@ -23,68 +23,85 @@ mod command;
 mod given;
 mod print;
 
-use anyhow::{Context, Result};
-use arrayvec::ArrayVec;
+ghost use Rattle.std.specs.Prelude.{◌≤◌, length, IfOk};
+
 use call::Call;
-use command::{Command, MAX_LINE_BYTES};
-use given::Given;
+use command::Command;
+use given::{Given, MAX_PATH_BYTES};
 use print::{Answer, Left};
-use std::io::Read;
-use std::str;
+use std::io;
+use std::io::{Read, Write};
 
-// Lines and lists stand in fixed memory: by `Vec` and `String` the allocator's three calls would be assumed for this program.
-type Line = ArrayVec<u8, MAX_LINE_BYTES>;
+// A line and what is given stand in fixed memory: by `Vec` and `String` the allocator's three calls would be assumed for this program.
+const MAX_LINE_BYTES: usize = 4096;
 
-// The next line without its end, empty where the input ends.
-fn read_line(input: &mut impl Read) -> Result<Line> {
-    let mut line = Line::new();
-    for byte in input.bytes() {
-        let byte = byte?;
+// A line's end where the input is at its own.
+fn read_byte(input: &mut impl Read) -> io::Result<u8> {
+    let mut byte = [0];
+    if input.read(&mut byte)? == 0 {
+        return Ok(b'\n');
+    }
+    Ok(byte[0])
+}
+
+// Reads a line, as much of it as there is room for, without its end; how many bytes it has.
+fn read_line(input: &mut impl Read, line: &mut [u8]) -> io::Result<usize>
+    ensures { IfOk result (λ size. size ≤ length line.new) }
+{
+    for at in 0..line.len() {
+        let byte = read_byte(input)?;
         if byte == b'\n' {
-            break;
+            return Ok(at);
         }
-        line.try_push(byte)?;
+        line[at] = byte;
     }
-    Ok(line)
+    Ok(line.len())
 }
 
-// Whether it goes on: at an empty line, or where the input ends, it's over.
-fn run_next(rt: &impl Print, input: &mut impl Read, given: &mut Given) -> Result<bool> {
-    let line = read_line(input)?;
-    if line.is_empty() {
-        return Ok(false);
-    }
-    match Command::try_from(str::from_utf8(&line)?)? {
+fn run_line(output: &mut impl Write, line: &[u8], given: &mut Given) -> io::Result<()> {
+    match Command::from(line) {
         Command::Comment => {}
-        Command::Fill { part, size, bytes } => given.fill(part, size, &bytes)?,
-        Command::Edit { part, at, bytes } => given.edit(part, at, &bytes),
-        Command::Call(call) => run_call(rt, given, call)?,
+        Command::Fill { part, size, digits } => given.fill(part, size, digits),
+        Command::Edit { at, digits } => given.edit(at, digits),
+        Command::Call(call) => run_call(output, given, call)?,
     }
-    Ok(true)
+    Ok(())
 }
 
-fn run_call(rt: &impl Print, given: &Given, call: Call<'_>) -> Result<()> {
-    let before = given.path()?;
-    let mut after = given.path()?;
-    let answer = Answer(call.make(given, &mut after)?);
+fn run_call(output: &mut impl Write, given: &Given, call: Call<'_>) -> io::Result<()> {
+    output.write_all(call.words)?;
+    let mut after = [0; MAX_PATH_BYTES];
+    given.copy_path(&mut after);
+    let answer = Answer(call.make(given, &mut after[..given.path_len()]));
     let left = Left {
-        before: &before,
+        before: given.path(),
         after: &after,
     };
-    println!(rt; "{}: {answer}, left{left}", call.words)?;
+    writeln!(output, ": {answer}, left{left}")
+}
+
+// At an empty line, or where the input ends, it's over.
+fn run(
+    input: &mut impl Read,
+    output: &mut impl Write,
+    line: &mut [u8],
+    given: &mut Given,
+) -> io::Result<()> {
+    for _ in 0..1_000_000 {
+        let size = read_line(input, line)?;
+        if size == 0 {
+            return Ok(());
+        }
+        run_line(output, &line[..size], given)?;
+    }
     Ok(())
 }
 
-fn main(rt: HostRuntime) -> Result<()> {
-    let mut given = Given::new()?;
-    let mut input = rt.reader();
-    // By number, since the library's lines stand on the heap.
-    for number in 0..u64::MAX {
-        if !run_next(&rt, &mut input, &mut given).context(format_args!(
-            "line {number}, counted from 0"
-        ))? {
-            break;
-        }
-    }
-    Ok(())
+fn main(rt: HostRuntime) -> io::Result<()> {
+    run(
+        &mut rt.reader(),
+        &mut io::writer(&rt),
+        &mut [0; MAX_LINE_BYTES],
+        &mut Given::new(),
+    )
 }
