@@ -2,13 +2,14 @@
 -- Assumes nothing.
 use mathlib.Core.Path.{◌≡◌, sym, ap, ◌∙◌}
 use mathlib.Core.List.{List, [], ◌∷◌, map}
-use Prim.Native.Nat.{ℕ, ◌-◌, ◌≤◌, ◌<◌, min}
+use Prim.Native.Nat.{ℕ, ◌+◌, ◌-◌, ◌≤◌, ◌<◌, min}
 use native.Mathlib.Omega.{arith}
 use denote.Ref.{Bor}
 use Rattle.std.specs.Prelude.{Some, None}
 use Rattle.segments.specs.Segments.{segments, segment_count, started, step_of, advanced}
 use Rattle.segments.specs.declared.SegmentIterator.{SegmentIterator}
 use Rattle.segments.specs.declared.Segment.{Segment}
+use Rattle.segments.specs.declared.SegmentPlace.{SegmentPlace}
 use Rattle.segments.proofs.Walk.{Walk, ends, goes, walk_segments, placed}
 use Rattle.expiration.specs.Expiration.{least, segment_expiry}
 use Rattle.expiration.proofs.Expiry.{least_capped}
@@ -60,4 +61,5 @@ nearer at {segment} e =
     let here = placed at.path.now at.place e in
     let counted = here.counted in
     let info = here.info in
-    rw e (omega (arith, counted, info))
+    let next : segment.next.seg_idx ≡ segment.info_idx + 1 = ap (λ (to : SegmentPlace). to.seg_idx) here.next in
+    rw e (omega (arith, counted, info, next))

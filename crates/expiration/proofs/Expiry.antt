@@ -41,6 +41,11 @@ module _ (path : List ℕ) where
       rw (ne_eqb (suc (length more)) 0 (λ z. omega arith))
       (fold_least (segment_expiry path segment) (map (segment_expiry path) more) (segment_capped segment))
 
+  pub least_by_fold : fold min 4294967295 (map (segment_expiry path) (segments path)) ≡ least (map (segment_expiry path) (segments path))
+  least_by_fold =
+      let all = map (segment_expiry path) (segments path) in
+      fold_least 4294967295 all (omega arith) ∙ omega (arith, least_capped all)
+
   pub path_found : unwrap_or (reduce min (map (segment_expiry path) (segments path))) 0 ≡ path_expiry path
   unfolding path_expiry segment_count
   path_found = least_found (segments path)

@@ -11,7 +11,7 @@ use denote.Ref.{Bor}
 use lib.ListN.{length, get_or}
 use Rattle.std.specs.Prelude.{Option, Some, None}
 use Rattle.standard_path.specs.Header.{hops}
-use Rattle.segments.specs.Segments.{segments_from, lengths, segments, segment_count, seg_len, next_segment, behind, place_after, started, step_of, advanced, steps_within, rest}
+use Rattle.segments.specs.Segments.{segments_from, lengths, segments, segment_count, seg_len, next_segment, place_after, started, step_of, advanced, steps_within, rest}
 use Rattle.segments.specs.declared.SegmentIterator.{SegmentIterator}
 use Rattle.segments.specs.declared.SegmentPlace.{SegmentPlace}
 use Rattle.segments.specs.declared.Segment.{Segment}
@@ -43,7 +43,7 @@ module _ (path : List ℕ) where
   step_ends s h e = simp (le-leb _ _ e)
 
   pub step_goes : (s h n : ℕ) → s < segment_count path → seg_len path s ≡ n → h + n ≤ hops path
-      → next_segment path (place s h) ≡ Some (record { info_idx = s; first_hop = h; hop_count = n })
+      → next_segment path (place s h) ≡ Some (record { info_idx = s; first_hop = h; hop_count = n; next = place (s + 1) (h + n) })
   unfolding next_segment
   step_goes s h n b e r = rw e (simp (lt-leb _ _ b, le-ltb _ _ r))
 
@@ -85,6 +85,7 @@ pub record Placed (path : List ℕ) (place : SegmentPlace) (segment : Segment) :
   pub first : segment.first_hop ≡ place.hop_idx
   pub counted : segment.info_idx < segment_count path
   pub within : segment.first_hop + segment.hop_count ≤ hops path
+  pub next : segment.next ≡ record { seg_idx = segment.info_idx + 1; hop_idx = segment.first_hop + segment.hop_count }
 
 pub placed : (path : List ℕ) (place : SegmentPlace) {segment : Segment} → next_segment path place ≡ Some segment → Placed path place segment
 unfolding next_segment
@@ -99,7 +100,8 @@ placed path place {segment} = go (leb (segment_count path) place.seg_idx) (ltb (
         let i : segment.info_idx ≡ place.seg_idx = cc in
         let h : segment.first_hop ≡ place.hop_idx = cc in
         let n : segment.hop_count ≡ seg_len path place.seg_idx = cc in
-        record { info = i; first = h; counted = rw i (leb-false _ _ p); within = rw (h, n) (ltb-false _ _ q) }
+        let on : segment.next ≡ record { seg_idx = place.seg_idx + 1; hop_idx = place.hop_idx + seg_len path place.seg_idx } = cc in
+        record { info = i; first = h; counted = rw i (leb-false _ _ p); within = rw (h, n) (ltb-false _ _ q); next = rw (i, h, n) on }
 
 module _ (lent : Bor (List ℕ)) where
   abbrev path : List ℕ
@@ -146,18 +148,19 @@ module _ (at : SegmentIterator) where
 
   -- else the segment that a step gives, and what is left behind it
   pub rest_some : {segment : Segment} → step_of at ≡ Some segment
-      → rest at ≡ segment ∷ rest (record { path = at.path; place = behind segment })
+      → rest at ≡ segment ∷ rest (record { path = at.path; place = segment.next })
   unfolding rest
   rest_some {segment} e =
       let place = placed at.path.now at.place e in
-      let n : segment_count at.path.now - at.place.seg_idx ≡ suc (segment_count at.path.now - (segment.info_idx + 1)) = omega arith in
+      let on : segment.next.seg_idx ≡ segment.info_idx + 1 = ap (λ (to : SegmentPlace). to.seg_idx) place.next in
+      let n : segment_count at.path.now - at.place.seg_idx ≡ suc (segment_count at.path.now - segment.next.seg_idx) = omega (arith, place.info, place.counted, on) in
       rw (n, e)
 
 -- all segments are left to one that starts
 pub walk_rest : (at : SegmentIterator) {all : List Segment} → Walk at all → rest at ≡ all
 walk_rest at (ends e) = rest_none at e
 walk_rest at (goes {segment = segment} e w) =
-    let on : advanced at ≡ record { path = at.path; place = behind segment } =
+    let on : advanced at ≡ record { path = at.path; place = segment.next } =
     ap (λ (step : Option Segment). record { path = at.path; place = place_after at.place step }) e in
     rest_some at e ∙ ap (λ (more : List Segment). segment ∷ more) (ap rest (sym on) ∙ walk_rest (advanced at) w)
 

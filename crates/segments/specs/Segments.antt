@@ -16,7 +16,9 @@ use Rattle.segments.specs.declared.SegmentIterator.{SegmentIterator}
 abbrev pub segments_from : ℕ → ℕ → List ℕ → List Segment
 segments_from s h [] = []
 segments_from s h (n ∷ lengths) =
-    cond (eqb n 0) [] (record { info_idx = s; first_hop = h; hop_count = n } ∷ segments_from (s + 1) (h + n) lengths)
+    cond (eqb n 0) []
+    (record { info_idx = s; first_hop = h; hop_count = n; next = record { seg_idx = s + 1; hop_idx = h + n } }
+    ∷ segments_from (s + 1) (h + n) lengths)
 
 abbrev pub lengths : List ℕ → List ℕ
 lengths path = seg0_len path ∷ seg1_len path ∷ seg2_len path ∷ []
@@ -42,14 +44,15 @@ unfoldable pub next_segment : List ℕ → SegmentPlace → Option Segment
 next_segment path place =
     cond (leb (segment_count path) place.seg_idx) None
     (cond (ltb (hops path) (place.hop_idx + seg_len path place.seg_idx)) None
-    (Some (record { info_idx = place.seg_idx; first_hop = place.hop_idx; hop_count = seg_len path place.seg_idx })))
-
--- the place behind a segment
-abbrev pub behind : Segment → SegmentPlace
-behind segment = record { seg_idx = segment.info_idx + 1; hop_idx = segment.first_hop + segment.hop_count }
+    (Some (record {
+      info_idx = place.seg_idx;
+      first_hop = place.hop_idx;
+      hop_count = seg_len path place.seg_idx;
+      next = record { seg_idx = place.seg_idx + 1; hop_idx = place.hop_idx + seg_len path place.seg_idx };
+    })))
 
 abbrev pub place_after : SegmentPlace → Option Segment → SegmentPlace
-place_after place (Some segment) = behind segment
+place_after place (Some segment) = segment.next
 place_after place None = place
 
 -- ---- an iterator: the path, and the place in it

@@ -9,7 +9,7 @@
 
 ghost use Rattle.std.specs.Prelude.{◌≡◌, ◌+◌, ◌<◌, eqb, IfSome, ⊤};
 ghost use Rattle.std.specs.Iterator.{YieldsFirst, item_count, MakesProgress};
-ghost use Rattle.segments.specs.Segments.{segment_count, seg_len, hop_fields, next_segment, behind, place_after};
+ghost use Rattle.segments.specs.Segments.{segment_count, seg_len, hop_fields, next_segment, place_after};
 ghost use Rattle.segments.specs.Segments.{started, step_of, advanced, rest};
 
 use fields::layout::HopFieldLayout;
@@ -54,12 +54,13 @@ fn seg_len(path: &[u8], index: u8) -> u8
 
 // ---- a step along the segments
 
-// A segment by its numbers: its info field, its first hop field, and how many hop fields it has.
+// A segment by its numbers: its info field, its first hop field, how many hop fields it has; and the place behind it.
 #[derive(Clone, Copy)]
 pub struct Segment {
     pub info_idx: u8,
     pub first_hop: u8,
     pub hop_count: u8,
+    pub next: SegmentPlace,
 }
 
 impl Segment {
@@ -74,17 +75,6 @@ impl Segment {
             at,
             HopFieldLayout::SIZE_BYTES * usize::from(self.hop_count),
         )
-    }
-
-    // The place behind it.
-    fn behind(self) -> SegmentPlace
-        requires { (self.info_idx < 3) × (self.first_hop + self.hop_count < 256) }
-        ensures { result ≡ behind self }
-    {
-        SegmentPlace {
-            seg_idx: self.info_idx + 1,
-            hop_idx: self.first_hop + self.hop_count,
-        }
     }
 }
 
@@ -114,14 +104,25 @@ pub fn next_segment(path: &[u8], place: SegmentPlace) -> Option<Segment>
         info_idx: segment,
         first_hop: first,
         hop_count: count,
+        next: SegmentPlace {
+            seg_idx: segment + 1,
+            hop_idx: first + count,
+        },
     })
 }
 
-// The place behind the segment at a place; where there is none, the place itself. `next`, which has the segment, asks it alone.
+// The place behind a step, from whatever path it was taken; where it gave no segment, the place itself.
+pub fn place_after(place: SegmentPlace, step: Option<Segment>) -> SegmentPlace
+    ensures { result ≡ place_after place step }
+{
+    step.map_or(place, |segment| segment.next)
+}
+
+// The place behind the segment at a place; where there is none, the place itself.
 pub fn next_place(path: &[u8], place: SegmentPlace) -> SegmentPlace
     ensures { result ≡ place_after place (next_segment path.now place) }
 {
-    next_segment(path, place).map_or(place, |segment| segment.behind())
+    place_after(place, next_segment(path, place))
 }
 
 // ---- the iterator
@@ -160,8 +161,8 @@ impl<'a> Iterator for SegmentIterator<'a> {
         ensures steps { YieldsFirst rest self.old result self.new }
         ensures goes { MakesProgress (λ _. ⊤) (item_count rest) self.old result self.new }
     {
-        let segment = next_segment(self.path, self.place)?;
-        self.place = segment.behind();
-        Some(segment)
+        let step = next_segment(self.path, self.place);
+        self.place = place_after(self.place, step);
+        step
     }
 }
