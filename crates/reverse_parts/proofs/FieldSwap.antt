@@ -14,6 +14,18 @@ use Rattle.reverse_parts.proofs.FieldOrder.{last_first_first, last_first_last, l
 
 -- ---- two fields exchanged
 
+-- one byte more
+pub swap_more : (size low high i : ℕ) (path : List ℕ) → i < size
+    → swap_fields (size - (i + 1)) (low + (i + 1)) (high + (i + 1))
+    (set (set path (low + i) (get_or path (high + i) 0)) (high + i) (get_or path (low + i) 0))
+    ≡ swap_fields (size - i) (low + i) (high + i) path
+unfolding swap_fields
+swap_more size low high i path h =
+    let left : size - i ≡ suc (size - (i + 1)) = omega arith in
+    let p : low + (i + 1) ≡ suc (low + i) = omega arith in
+    let q : high + (i + 1) ≡ suc (high + i) = omega arith in
+    rw (left, p, q)
+
 -- the first bytes of two fields
 swap_heads : (a m z : List ℕ) (b d : ℕ) {low high : ℕ} → length a ≡ low → length a + suc (length m) ≡ high
     → (let path = a ++ (b ∷ (m ++ (d ∷ z))) in set (set path low (get_or path high 0)) high (get_or path low 0)) ≡ a ++ (d ∷ (m ++ (b ∷ z)))

@@ -75,14 +75,17 @@ fn toggle_cons_dirs(path: &mut [u8], infos: u8)
     }
 }
 
-// Exchanges two fields that lie apart.
-#[tactic(auto, using(crate::proofs::FieldSwap::swap_by_parts))]
+// Exchanges two fields that lie apart, byte by byte: by `swap_with_slice`, which the library keeps out of line, a reversal of 64 hops
+// takes some five times as long.
 fn swap_fields(path: &mut [u8], low: usize, high: usize, size: usize)
     requires { (low + size ≤ high) × (high + size ≤ length path.old) }
     ensures { path.new ≡ swap_fields size low high path.old }
 {
-    let (front, back) = path.split_at_mut(high);
-    front[low..low + size].swap_with_slice(&mut back[..size]);
+    for i in 0..size {
+        let byte = path[low + i];
+        path[low + i] = path[high + i];
+        path[high + i] = byte;
+    }
 }
 
 // Reverses the order of `count` fields, from both ends; by index for the same reason.
