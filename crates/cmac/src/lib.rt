@@ -156,9 +156,12 @@ pub fn aes_cmac(key: [u8; 16], message: &[u8]) -> [u8; 16]
     KeySchedule::new(&table, &round_keys).aes_cmac(message)
 }
 
-// The same for a message of one block.
+// The same for a message of one block, by words.
+#[tactic(auto, using(crate::proofs::CmacLaws::cmac_from_schedule))]
 pub fn aes_cmac_block(key: [u8; 16], block: [u8; 16]) -> [u8; 16]
     ensures { result ≡ aes_cmac key block }
 {
-    aes_cmac(key, &block)
+    let table = round_table();
+    let round_keys = expand_key(key);
+    KeySchedule::new(&table, &round_keys).aes_cmac_block(block)
 }
