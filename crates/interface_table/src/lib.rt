@@ -78,6 +78,20 @@ pub enum AsRoutingLinkType {
     LinkToPeer,
 }
 
+// The number of a link, as a state has it.
+impl From<AsRoutingLinkType> for u8 {
+    ghost from_gives = { λ link number. number ≡ link_number link };
+
+    fn from(link: AsRoutingLinkType) -> u8 {
+        match link {
+            AsRoutingLinkType::LinkToCore => 0,
+            AsRoutingLinkType::LinkToParent => 1,
+            AsRoutingLinkType::LinkToChild => 2,
+            AsRoutingLinkType::LinkToPeer => 3,
+        }
+    }
+}
+
 // A function and no `From`: it reads two bits of any byte, and 01 hands a state on as a byte.
 #[tactic(auto, unfolding(crate::specs::Table::link_type))]
 pub fn link_type(state: u8) -> AsRoutingLinkType
@@ -100,7 +114,7 @@ pub fn is_up(state: u8) -> bool
 
 // Whether a segment change may come in by the one link and go out by the other.
 #[tactic(auto, unfolding(crate::specs::Table::pair_allowed, crate::specs::Table::is_among))]
-pub fn is_allowed_pair(in_link: AsRoutingLinkType, out_link: AsRoutingLinkType) -> bool
+pub fn is_allowed_link_pair(in_link: AsRoutingLinkType, out_link: AsRoutingLinkType) -> bool
     ensures { result ≡ pair_allowed (link_number in_link) (link_number out_link) }
 {
     match in_link {
@@ -114,8 +128,8 @@ pub fn is_allowed_pair(in_link: AsRoutingLinkType, out_link: AsRoutingLinkType) 
 
 // The same of two numbers of links. From 4 on a number is no link's.
 #[tactic(auto, unfolding(crate::specs::Table::pair_allowed, crate::specs::Table::is_among, crate::specs::Table::link_type))]
-pub fn is_allowed_number_pair(in_link: u8, out_link: u8) -> bool
+pub fn is_allowed_pair(in_link: u8, out_link: u8) -> bool
     ensures { result ≡ pair_allowed in_link out_link }
 {
-    in_link < 4 && out_link < 4 && is_allowed_pair(link_type(in_link), link_type(out_link))
+    in_link < 4 && out_link < 4 && is_allowed_link_pair(link_type(in_link), link_type(out_link))
 }

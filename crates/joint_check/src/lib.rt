@@ -10,7 +10,7 @@ ghost use Rattle.joint_check.specs.Joint.{change_fits};
 ghost use Rattle.joint_check.specs.Inner.{joint_fits_from};
 
 use hop_check::{arrives_by, leaves_by};
-use interface_table::{is_allowed_pair, link_type};
+use interface_table::{is_allowed_link_pair, link_type};
 use segment_check::hops::PathSegment;
 use segment_check::journey::Journey;
 use standard_path::view;
@@ -34,7 +34,7 @@ fn change_fits(
     let Some(out) = station.lookup(fields::egress_interface(next_hop, next_info)) else {
         return false;
     };
-    is_allowed_pair(link_type(into), link_type(out))
+    is_allowed_link_pair(link_type(into), link_type(out))
 }
 
 // From a segment to the next, whose first hop is at the station with this record.

@@ -42,7 +42,7 @@ fn validate_links(
     })?;
     let in_link = interface_table::link_type(in_state);
     let out_link = interface_table::link_type(out_state);
-    if !interface_table::is_allowed_pair(in_link, out_link) {
+    if !interface_table::is_allowed_link_pair(in_link, out_link) {
         return Err(StandardRoutingError::InvalidSegmentChange { hop_index });
     }
     Ok(())
