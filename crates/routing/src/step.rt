@@ -132,11 +132,15 @@ pub fn handle_standard_path(
         as_forwarding_key,
         ignore_macs,
     )?;
-    let egress_interface_id = match next_action {
-        IngressNextAction::Complete(action) => return Ok(action),
-        IngressNextAction::ContinueEgress {
-            egress_interface_id,
-        } => egress_interface_id,
+    // A refusal has left by `?`, so what is no way on to egress is an action; `let .. else` takes the egress number out, as 01 has it.
+    let IngressNextAction::ContinueEgress {
+        egress_interface_id,
+    } = next_action
+    else {
+        let IngressNextAction::Complete(action) = next_action else {
+            unreachable!();
+        };
+        return Ok(action);
     };
     validate_leaving(interfaces, egress_interface_id, path)?;
     validate_place(edition, path, hop_index)?;
