@@ -5,6 +5,7 @@ use Rattle.questions.specs.Questions.{asks}
 use Rattle.standard_path.specs.Header.{header_number, header_questions, segment_index}
 use Rattle.standard_path.specs.declared.view.SegmentIndex.{SegmentIndex}
 use Rattle.standard_path.specs.declared.view.HeaderError.{HeaderError}
+use Rattle.expiration.specs.Expiration.{expiration_number}
 use Rattle.reverse.specs.Reverse.{reverse_number}
 use Rattle.reverse.specs.declared.PathReverseError.{PathReverseError}
 use Rattle.answers.specs.Answer.{refusal_number, refusal_values, action_number, action_values, four_values, flag, StepAnswer, IngressAnswer}
@@ -56,7 +57,7 @@ reversal_reply (Err error) = reply (reverse_number error) [] None
 
 unfoldable pub expiration_reply : Result ℕ HeaderError → Reply
 expiration_reply (Ok time) = reply 111 (time ∷ []) None
-expiration_reply (Err error) = reply (header_number error) [] None
+expiration_reply (Err error) = reply (expiration_number (Err error)) [] None
 
 -- of the hop with this index: its segment, and whether it is the first there, and the last
 unfoldable pub index_reply : ℕ → Option SegmentIndex → Reply
